@@ -1,0 +1,5 @@
+//! What all layers share: limits, refusals, the typed calls and sets of blocks.
+pub mod call;
+pub mod fault;
+pub mod limits;
+pub mod station;
