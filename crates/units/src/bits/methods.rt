@@ -1,0 +1,66 @@
+//! What a set answers, and how it grows.
+ghost use Prim.Native.Nat.{ℕ};
+ghost use Rattle.units.specs.Bits.{has, with-span, countOf, firstAbsent, lastOf};
+ghost use lib.Dec.{eqb, leb};
+ghost use mathlib.Core.Bool.{_&&_, _||_};
+ghost use mathlib.Core.Path.{_≡_};
+use super::BitSet;
+
+/// One more than the largest number of a set.
+const SIZE: u8 = 96;
+
+impl BitSet {
+    /// The empty set.
+    pub fn new() -> BitSet
+        ensures { λ r. ⌜ r .bits ≡ 0 ⌝ }
+    {
+        BitSet { bits: 0 }
+    }
+
+    /// Whether the number is in the set.
+    pub fn contains(&self, n: u8) -> bool
+        ensures { λ r. ⌜ r ≡ has (now (self .entry) .bits) n ⌝ }
+    {
+        n < SIZE && (self.bits >> n) % 2 == 1
+    }
+
+    /// Puts the number into the set; one above 95 changes nothing.
+    pub fn insert(&mut self, n: u8)
+        ensures value { λ _. ⌜ now (self .exit) .bits ≡ with-span (now (self .entry) .bits) n n ⌝ }
+        ensures members { λ _. ⌜ ((k : ℕ) → has (now (self .exit) .bits) k ≡ (has (now (self .entry) .bits) k || (leb n 95 && eqb k n))) ⌝ }
+    {
+        self.insert_range(n, n);
+    }
+
+    /// Puts the numbers from `from` to `to` into the set; nothing where they run backward or past 95.
+    pub fn insert_range(&mut self, from: u8, to: u8)
+        ensures value { λ _. ⌜ now (self .exit) .bits ≡ with-span (now (self .entry) .bits) from to ⌝ }
+        ensures members { λ _. ⌜ ((k : ℕ) → has (now (self .exit) .bits) k ≡ (has (now (self .entry) .bits) k || (leb to 95 && (leb from k && leb k to)))) ⌝ }
+    {
+        if from <= to && to < SIZE {
+            let ones = (1u128 << (to - from + 1)) - 1;
+            self.bits |= ones << from;
+        }
+    }
+
+    /// How many numbers are in the set.
+    pub fn count(&self) -> u32
+        ensures { λ r. ⌜ r ≡ countOf (now (self .entry) .bits) ⌝ }
+    {
+        self.bits.count_ones()
+    }
+
+    /// The least number that is not in the set; 96 where all are.
+    pub fn first_absent(&self) -> u32
+        ensures { λ r. ⌜ r ≡ firstAbsent (now (self .entry) .bits) ⌝ }
+    {
+        self.bits.trailing_ones()
+    }
+
+    /// The largest number in the set.
+    pub fn last(&self) -> Option<u32>
+        ensures { λ r. ⌜ r ≡ lastOf (now (self .entry) .bits) ⌝ }
+    {
+        127u32.checked_sub(self.bits.leading_zeros())
+    }
+}
