@@ -57,6 +57,16 @@ sub-one-mul : (x y : ℕ) → 0 < x → (x - 1) * y + y ≡ x * y
 sub-one-mul zero y h = elim h [ ]
 sub-one-mul (suc x) y h = let e : suc x - 1 ≡ x = omega arith in rw e (sym (suc-mul x y))
 
+-- a row of m ones without its j lowest
+ones-shr : (m j : ℕ) → j ≤ m → (2 ^ m - 1) / 2 ^ j ≡ 2 ^ (m - j) - 1
+ones-shr m j h =
+    let d = m - j in
+    let e : m ≡ d + j = omega arith in
+    let p : 2 ^ m ≡ 2 ^ d * 2 ^ j = ap (λ z. 2 ^ z) e ∙ pow-add 2 d j in
+    let split : 2 ^ m - 1 ≡ (2 ^ d - 1) * 2 ^ j + (2 ^ j - 1) =
+    omega (arith, p, sub-one-mul (2 ^ d) (2 ^ j) (pow-pos d), pow-pos j, pow-pos d) in
+    ap (λ z. z / 2 ^ j) split ∙ shr-high (2 ^ d - 1) j (2 ^ j - 1) (omega (arith, pow-pos j))
+
 -- the digit j of a row of m ones
 ones-at : (m j : ℕ) → (2 ^ m - 1) / 2 ^ j % 2 ≡ cond (ltb j m) 1 0
 ones-at m j = ⊎-elim inside outside (cases-lt j m)
@@ -64,14 +74,9 @@ ones-at m j = ⊎-elim inside outside (cases-lt j m)
     inside : j < m → (2 ^ m - 1) / 2 ^ j % 2 ≡ cond (ltb j m) 1 0
     inside h =
         let d = m - j - 1 in
-        let e : m ≡ suc d + j = omega arith in
-        let p : 2 ^ m ≡ 2 ^ suc d * 2 ^ j = ap (λ z. 2 ^ z) e ∙ pow-add 2 (suc d) j in
-        let split : 2 ^ m - 1 ≡ (2 ^ suc d - 1) * 2 ^ j + (2 ^ j - 1) =
-        omega (arith, p, sub-one-mul (2 ^ suc d) (2 ^ j) (pow-pos (suc d)), pow-pos j, pow-pos (suc d)) in
-        let quotient : (2 ^ m - 1) / 2 ^ j ≡ 2 ^ suc d - 1 =
-        ap (λ z. z / 2 ^ j) split ∙ shr-high (2 ^ suc d - 1) j (2 ^ j - 1) (omega (arith, pow-pos j)) in
+        let e : m - j ≡ suc d = omega arith in
         let odd : (2 ^ suc d - 1) % 2 ≡ 1 = omega (arith, pow-suc 2 d, pow-pos d) in
-        ap (λ z. z % 2) quotient ∙ odd ∙ sym (cond-true (ltb j m) 1 0 (lt-ltb j m h))
+        ap (λ z. z % 2) (ones-shr m j (omega arith) ∙ ap (λ z. 2 ^ z - 1) e) ∙ odd ∙ sym (cond-true (ltb j m) 1 0 (lt-ltb j m h))
 
     outside : m ≤ j → (2 ^ m - 1) / 2 ^ j % 2 ≡ cond (ltb j m) 1 0
     outside h =
@@ -115,40 +120,29 @@ counted bits (suc k) =
     let digit : cond (has bits k) 1 0 ≡ y % 2 = digit-set (y % 2) (omega arith) in
     counted bits k ∙ rw half (rw digit (omega (arith, ones-step y)))
 
-pub count-ones-count : (bits : ℕ) → bits < 2 ^ 96 → ones bits ≡ countOf bits
+pub count-ones-count : (bits : ℕ) → bits < 2 ^ 128 → ones bits ≡ countOf bits
 unfolding countOf ones onesIn
 count-ones-count bits h =
-    let e : bits / 2 ^ 96 ≡ 0 = div-eq-of-lt h in
-    counted bits 96 ∙ ap (λ z. countBelow bits 96 + ones z) e ∙ add-zero _
-
--- a row of ones has no zero below it
-full-none : (e : ℕ) → trailingZeros (suc e) (2 ^ suc e - 1 - 0) ≡ 0
-unfolding trailingZeros
-full-none e =
-    let odd : (2 ^ suc e - 1 - 0) % 2 ≡ 1 = omega (arith, pow-suc 2 e, pow-pos e) in
-    ap (λ d. under d (trailingZeros e ((2 ^ suc e - 1 - 0) / 2))) odd
+    let e : bits / 2 ^ 128 ≡ 0 = div-eq-of-lt h in
+    counted bits 128 ∙ ap (λ z. countBelow bits 128 + ones z) e ∙ add-zero _
 
 half-of : (bits n : ℕ) → bits / 2 ^ n / 2 ≡ bits / 2 ^ (n + 1)
 half-of bits n = div-div-eq-div-mul bits (2 ^ n) 2 ∙ ap (λ z. bits / z) (sym (pow-suc 2 n) ∙ ap (λ z. 2 ^ z) (sym (add-one n)))
 
 -- the ones from the number n on are the zeros of the complement, where the digits from n on are below 2 ^ k
-module _ (e bits : ℕ) where
+module _ (bits : ℕ) where
   tail : ℕ → ℕ → ℕ
-  tail n k = trailingZeros (k + suc e) (2 ^ (k + suc e) - 1 - bits / 2 ^ n)
+  tail n k = trailingZeros k (2 ^ k - 1 - bits / 2 ^ n)
 
   one-more : (n k : ℕ) → bits / 2 ^ n < 2 ^ suc k → tail n (suc k) ≡ cond (has bits n) (suc (tail (n + 1) k)) 0
   unfolding trailingZeros tail
   one-more n k h =
       let y = bits / 2 ^ n in
-      let m = k + suc e in
-      let x = 2 ^ suc m - 1 - y in
-      let low : 2 ^ suc k ≤ 2 ^ suc m = pow-le-pow-right (omega arith) (omega arith) in
-      let double = pow-suc 2 m in
-      let half : x / 2 ≡ 2 ^ m - 1 - bits / 2 ^ (n + 1) = rw (← half-of bits n) (omega arith) in
-      let width : suc k + suc e ≡ suc m = suc-add k (suc e) in
-      let start : tail n (suc k) ≡ under (x % 2) (trailingZeros m (x / 2)) = ap (λ w. trailingZeros w (2 ^ w - 1 - y)) width in
-      let rest : trailingZeros m (x / 2) ≡ tail (n + 1) k = ap (trailingZeros m) half in
-      start ∙ ap (under (x % 2)) rest ∙ turn (y % 2) (x % 2) (tail (n + 1) k) (omega arith)
+      let x = 2 ^ suc k - 1 - y in
+      let double = pow-suc 2 k in
+      let half : x / 2 ≡ 2 ^ k - 1 - bits / 2 ^ (n + 1) = rw (← half-of bits n) (omega arith) in
+      let rest : trailingZeros k (x / 2) ≡ tail (n + 1) k = ap (trailingZeros k) half in
+      ap (under (x % 2)) rest ∙ turn (y % 2) (x % 2) (tail (n + 1) k) (omega arith)
     where
       turn : (d c t : ℕ) → c + d ≡ 1 → under c t ≡ cond (eqb d 1) (suc t) 0
       turn zero c t h = let e : c ≡ 1 = omega arith in ap (λ z. under z t) e
@@ -156,10 +150,8 @@ module _ (e bits : ℕ) where
       turn (suc (suc d)) c t h = absurd (omega arith)
 
   absent : (n k : ℕ) → bits / 2 ^ n < 2 ^ k → n + tail n k ≡ absentFrom bits n k
-  unfolding absentFrom tail
-  absent n zero h =
-      let none : bits / 2 ^ n ≡ 0 = omega arith in
-      ap (λ y. n + trailingZeros (0 + suc e) (2 ^ (0 + suc e) - 1 - y)) none ∙ ap (λ w. n + trailingZeros w (2 ^ w - 1 - 0)) (zero-add (suc e)) ∙ ap (λ z. n + z) (full-none e) ∙ add-zero n
+  unfolding absentFrom tail trailingZeros
+  absent n zero h = add-zero n
   absent n (suc k) h =
       let below : bits / 2 ^ (n + 1) < 2 ^ k = rw (← half-of bits n) (omega (arith, pow-suc 2 k)) in
       ap (λ z. n + z) (one-more n k h) ∙ go (has bits n) (absent (n + 1) k below)
@@ -168,11 +160,10 @@ module _ (e bits : ℕ) where
       go true ih = omega (arith, ih)
       go false ih = add-zero n
 
-pub trailing-absent : (bits : ℕ) → bits < 2 ^ 96 → trailingZeros 128 (2 ^ 128 - 1 - bits) ≡ firstAbsent bits
+pub trailing-absent : (bits : ℕ) → bits < 2 ^ 128 → trailingZeros 128 (2 ^ 128 - 1 - bits) ≡ firstAbsent bits
 unfolding firstAbsent tail
 trailing-absent bits h =
-    let e = absent 31 bits 0 96 (rw div-one h) in
-    sym (zero-add _) ∙ ap (λ z. 0 + trailingZeros 128 (2 ^ 128 - 1 - z)) (sym (div-one bits)) ∙ e
+    sym (zero-add _) ∙ ap (λ z. 0 + trailingZeros 128 (2 ^ 128 - 1 - z)) (sym (div-one bits)) ∙ absent bits 0 128 (rw div-one h)
 
 -- the largest number of a set is j where it lies from 2 ^ j on and below 2 ^ (j + 1)
 last-at : (bits j d : ℕ) → 2 ^ j ≤ bits → bits < 2 ^ suc j → lastBelow bits (suc (j + d)) ≡ Some j
@@ -189,9 +180,9 @@ last-none zero = refl
 last-none (suc k) = ap (λ z. cond (eqb (z % 2) 1) (Some k) (lastBelow 0 k)) (zero-div (2 ^ k)) ∙ last-none k
 
 -- what the leading zeros say of the largest number
-pub leading-last : (bits : ℕ) (r : Option ℕ) → bits < 2 ^ 96 → Checked r (leadingZeros 128 bits ≤ 127) (127 - leadingZeros 128 bits) → r ≡ lastOf bits
+pub leading-last : (bits : ℕ) (r : Option ℕ) → bits < 2 ^ 128 → Checked r (leadingZeros 128 bits ≤ 127) (127 - leadingZeros 128 bits) → r ≡ lastOf bits
 unfolding lastOf
-leading-last zero None h c = sym (last-none 96)
+leading-last zero None h c = sym (last-none 128)
 leading-last zero (Some x) h c = absurd (omega (arith, leading-of-zero 128, c .0))
 leading-last (suc n) None h c =
     let top = leading-top 128 (suc n) (omega arith) (omega arith) in
@@ -199,46 +190,35 @@ leading-last (suc n) None h c =
 leading-last (suc n) (Some x) h c =
     let top = leading-top 128 (suc n) (omega arith) (omega arith) in
     let j = top .0 in
-    let below : j < 96 = ⊎-elim (λ p. p) (λ p. let le : 2 ^ 96 ≤ 2 ^ j = pow-le-pow-right (omega arith) p in absurd (omega (arith, le, top .2))) (cases-lt j 96) in
     let here : x ≡ j = omega (arith, top .1, c .1) in
-    let width : suc (j + (95 - j)) ≡ 96 = omega arith in
-    ap Some here ∙ sym (last-at (suc n) j (95 - j) (top .2) (top .3)) ∙ ap (lastBelow (suc n)) width
+    let width : suc (j + (127 - j)) ≡ 128 = omega (arith, top .1) in
+    ap Some here ∙ sym (last-at (suc n) j (127 - j) (top .2) (top .3)) ∙ ap (lastBelow (suc n)) width
 
 -- the shifts that make a span lose no bit
-pub shifted-span : (from to : ℕ) → from ≤ to → to < 96 → (((1 * 2 ^ (to - from + 1)) % 2 ^ 128 - 1) * 2 ^ from) % 2 ^ 128 ≡ span from to
+pub shifted-span : (from to : ℕ) → from ≤ to → to < 128 → ((2 ^ 128 - 1) / 2 ^ (127 - (to - from)) * 2 ^ from) % 2 ^ 128 ≡ span from to
 shifted-span from to h l =
-    let one = one-shl (to - from + 1) 128 (omega arith) in
-    let e = shl-whole (2 ^ (to - from + 1) - 1) (to - from + 1) from 128 (omega (arith, pow-pos (to - from + 1))) (omega arith) in
-    rw one e
-
-pub span-low : (from to : ℕ) → from ≤ to → to < 96 → span from to < 2 ^ 96
-span-low from to h l =
     let m = to - from + 1 in
-    let below : span from to < 2 ^ (m + from) = shl-below (2 ^ m - 1) m from (omega (arith, pow-pos m)) in
-    let narrow : m + from ≤ 96 = omega arith in
-    let le : 2 ^ (m + from) ≤ 2 ^ 96 = pow-le-pow-right {n = 2} (omega arith) {i = m + from} {j = 96} narrow in
-    omega (arith, below, le)
-
-pub grown-low : (bits from to : ℕ) → bits < 2 ^ 96 → from ≤ to → to < 96 → bitOr bits (span from to) < 2 ^ 96
-grown-low bits from to b h l = or-lt 96 bits (span from to) b (span-low from to h l)
+    let width : 128 - (127 - (to - from)) ≡ m = omega arith in
+    let row : (2 ^ 128 - 1) / 2 ^ (127 - (to - from)) ≡ 2 ^ m - 1 = ones-shr 128 (127 - (to - from)) (omega arith) ∙ ap (λ z. 2 ^ z - 1) width in
+    ap (λ z. (z * 2 ^ from) % 2 ^ 128) row ∙ shl-whole (2 ^ m - 1) m from 128 (omega (arith, pow-pos m)) (omega arith)
 
 or-none : (b : Bool) → b ≡ (b || false)
 or-none true = refl
 or-none false = refl
 
-pub grown : (bits from to : ℕ) → from ≤ to → to < 96 → with-span bits from to ≡ bitOr bits (span from to)
-grown bits from to h l = cond-true _ _ _ (and-from _ _ (le-leb from to h) (le-leb to 95 (omega arith)))
+pub grown : (bits from to : ℕ) → from ≤ to → to < 128 → with-span bits from to ≡ bitOr bits (span from to)
+grown bits from to h l = cond-true _ _ _ (and-from _ _ (le-leb from to h) (le-leb to 127 (omega arith)))
 
-pub has-with-span : (bits from to k : ℕ) → has (with-span bits from to) k ≡ (has bits k || (leb to 95 && (leb from k && leb k to)))
+pub has-with-span : (bits from to k : ℕ) → has (with-span bits from to) k ≡ (has bits k || (leb to 127 && (leb from k && leb k to)))
 has-with-span bits from to k = ⊎-elim
-    (λ (p : to < 96). ⊎-elim
-    (λ (q : to < from). unchanged (and-left _ _ (lt-leb from to q)) (and-right (leb to 95) _ (apart (cases-lt k from) q)))
-    (λ (q : from ≤ to). ap (λ z. has z k) (grown bits from to q p) ∙ has-or bits (span from to) k ∙ ap (λ z. has bits k || z) (has-span from to k q ∙ sym (ap (λ z. z && (leb from k && leb k to)) (le-leb to 95 (omega arith)))))
+    (λ (p : to < 128). ⊎-elim
+    (λ (q : to < from). unchanged (and-left _ _ (lt-leb from to q)) (and-right (leb to 127) _ (apart (cases-lt k from) q)))
+    (λ (q : from ≤ to). ap (λ z. has z k) (grown bits from to q p) ∙ has-or bits (span from to) k ∙ ap (λ z. has bits k || z) (has-span from to k q ∙ sym (ap (λ z. z && (leb from k && leb k to)) (le-leb to 127 (omega arith)))))
     (cases-lt to from))
-    (λ (p : 96 ≤ to). unchanged (and-right (leb from to) _ (lt-leb to 95 (omega arith))) (and-left _ _ (lt-leb to 95 (omega arith))))
-    (cases-lt to 96)
+    (λ (p : 128 ≤ to). unchanged (and-right (leb from to) _ (lt-leb to 127 (omega arith))) (and-left _ _ (lt-leb to 127 (omega arith))))
+    (cases-lt to 128)
   where
-    unchanged : (leb from to && leb to 95) ≡ false → (leb to 95 && (leb from k && leb k to)) ≡ false → has (with-span bits from to) k ≡ (has bits k || (leb to 95 && (leb from k && leb k to)))
+    unchanged : (leb from to && leb to 127) ≡ false → (leb to 127 && (leb from k && leb k to)) ≡ false → has (with-span bits from to) k ≡ (has bits k || (leb to 127 && (leb from k && leb k to)))
     unchanged t u = ap (λ z. has z k) (cond-false _ _ _ t) ∙ or-none (has bits k) ∙ ap (λ z. has bits k || z) (sym u)
 
     apart : (k < from) ⊎ (from ≤ k) → to < from → (leb from k && leb k to) ≡ false

@@ -1,3 +1,5 @@
+use Prim.Native.Nat.{_^_, _<_}
+use borrow.Author.Needs.{needs}
 use Rattle.std.proofs.shelf.Tests.{le-ltb}
 use Rattle.units.proofs.Sets.{has-past}
 use Rattle.units.proofs.bits.BitSet.contains.Needs as need
@@ -6,4 +8,5 @@ use native.Mathlib.Omega.{arith}
 
 pub returns-else-n-lt-SIZE : need.returns-else-n-lt-SIZE
 returns-else-n-lt-SIZE c =
-    le-ltb (c .args .n) 96 (omega arith) ∙ sym (has-past (c .args .self .now .bits) 96 (c .args .n) (c .args .self .now .low) (omega arith))
+    let low : c .args .self .now .bits < 2 ^ 128 = search needs in
+    le-ltb (c .args .n) 128 (omega arith) ∙ sym (has-past (c .args .self .now .bits) 128 (c .args .n) low (omega arith))

@@ -1,19 +1,9 @@
-use Prim.Native.Nat.{_+_, _-_}
-use Rattle.std.proofs.shelf.Bits.{one-shl, pow-pos}
-use Rattle.units.proofs.Sets.{grown, grown-low, has-with-span, shifted-span}
+use Rattle.units.proofs.Sets.{grown, has-with-span, shifted-span}
 use Rattle.units.proofs.bits.BitSet.insert_range.Needs as need
+use Rattle.units.specs.Bits.{has}
 use lib.Bits.{bitOr}
-use mathlib.Core.Path.{_≡_, ap, sym, _∙_}
-use Rattle.units.specs.Bits.{has, with-span}
+use mathlib.Core.Path.{ap, sym, _∙_}
 use native.Mathlib.Omega.{arith}
-
-pub sub-ones-then-to-lt-SIZE : need.sub-ones-then-to-lt-SIZE
-sub-ones-then-to-lt-SIZE c =
-    let n = c .args .to - c .args .from + 1 in omega (arith, one-shl n 128 (omega arith), pow-pos n)
-
-pub ghost-self : need.ghost-self
-ghost-self c =
-    (simp (shifted-span (c .args .from) (c .args .to) (omega arith) (omega arith)) (grown-low (c .args .self .now .bits) (c .args .from) (c .args .to) (c .args .self .now .low) (omega arith) (omega arith)), tt)
 
 pub returns-then-to-lt-SIZE : need.returns-then-to-lt-SIZE
 returns-then-to-lt-SIZE c =
