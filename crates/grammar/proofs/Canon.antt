@@ -1,4 +1,4 @@
--- A call is read back from its spelling. Assumes nothing.
+-- A call is read back from its spelling.
 use mathlib.Core.Path.{_≡_, refl, sym, ap, subst, _∙_}
 use mathlib.Core.Bool.{Bool, true, false, _&&_}
 use mathlib.Core.Logic.{⊎-elim}

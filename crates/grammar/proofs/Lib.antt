@@ -1,2 +1,3 @@
 pub mod Canon
+pub mod Exactly
 pub mod Reading

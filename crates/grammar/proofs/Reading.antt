@@ -1,4 +1,4 @@
--- `outcome` finds the form that a line spells, or the longest start of a form. Assumes nothing.
+-- `outcome` finds the form that a line spells, or the longest start of a form.
 use mathlib.Core.Path.{_≡_, refl, sym, ap, subst, _∙_}
 use mathlib.Core.Bool.{Bool, true, false, _&&_, cond}
 use mathlib.Core.Logic.{_⊎_, inl, inr, ⊎-elim}

@@ -12,7 +12,7 @@ use Rattle.std.specs.shelf.Lists.{All}
 use Rattle.grammar.specs.Grammar as grammar
 use Rattle.grammar.specs.Grammar.{Arg, number, list, spaced, spelled}
 use Rattle.grammar.specs.declared.heads.Head.{Head}
-use Rattle.grammar.specs.declared.heads.Head.the-variants.{File, Declare, Issue, Revise, Close, Read, Settle, Correct, Pay, Draw}
+use Rattle.grammar.specs.declared.heads.Head.the-variants.{File, Declare, Issue, Revise, Close, Read, Settle, Correct, Pay, Draw, Open}
 use Rattle.grammar.specs.declared.heads.Sort.{Sort}
 use Rattle.grammar.specs.declared.heads.Sort.the-variants.{Number, List as Listed}
 use Rattle.units.specs.declared.call.Call.{Call}
@@ -29,7 +29,7 @@ pub record Asked : Type 0 where
   pub head : List ℕ
   pub values : List Value
 
--- the word that a call begins with
+-- the word that a line begins with
 abbrev pub name : Head → List ℕ
 name File = codes "file"
 name Declare = codes "declare"
@@ -41,6 +41,7 @@ name Settle = codes "settle"
 name Correct = codes "correct"
 name Pay = codes "pay"
 name Draw = codes "draw"
+name Open = codes "open"
 
 -- of which sorts its arguments are
 abbrev pub sorts : Head → List Sort
@@ -54,6 +55,7 @@ sorts Settle = Number ∷ []
 sorts Correct = Number ∷ Number ∷ Number ∷ []
 sorts Pay = Number ∷ Number ∷ []
 sorts Draw = Number ∷ Number ∷ []
+sorts Open = Listed ∷ Listed ∷ Listed ∷ []
 
 abbrev pub headOf : Call → Head
 headOf (call.File t a b x) = File
@@ -85,7 +87,7 @@ asked c = record { head = name (headOf c); values = valuesOf c }
 -- the opening of a book: three lists
 abbrev pub opens : Opening → Asked
 opens o = record {
-  head = codes "open";
+  head = name Open;
   values = many (vec-items (o .kinds)) ∷ many (vec-items (o .counts)) ∷ many (vec-items (o .installed)) ∷ [];
 }
 

@@ -1,3 +1,5 @@
 pub mod Calls
 pub mod Grammar
+pub mod Laws
 pub mod Machine
+pub mod Reads

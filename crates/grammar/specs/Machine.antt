@@ -1,4 +1,4 @@
--- The reader as a machine that takes the line byte by byte. Assumes nothing.
+-- The reader as a machine that takes the line byte by byte.
 --
 -- Nothing that a public call promises is said in these words: `proofs/Reading.antt` shows that
 -- `outcome` finds the form that a line spells, or the longest start of a form.

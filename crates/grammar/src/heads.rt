@@ -1,6 +1,6 @@
-//! The heads of the calls, and the sorts of arguments.
+//! The heads of lines, and the sorts of arguments.
 
-/// The word that a call begins with.
+/// The word that a line begins with: `Open` of a line that opens a book, any other of a call.
 #[derive(Clone, Copy, Debug)]
 pub enum Head {
     File,
@@ -13,8 +13,10 @@ pub enum Head {
     Correct,
     Pay,
     Draw,
+    Open,
 }
 
+/// A number, or a list of numbers.
 #[derive(Clone, Copy, Debug, PartialEq)]
 pub enum Sort {
     Number,

@@ -1,7 +1,7 @@
 -- What the operations on bits make of the numbers in a set.
 use Prim.Native.Nat.{ℕ, zero, suc, _+_, _-_, _*_, _/_, _%_, _^_, _≤_, _<_, max}
 use Rattle.std.proofs.shelf.Bits.{or-shr, pow-add, pow-pos, shl-shr, shr-high, shr-shr, or-lt, leading-top, one-shl, shl-whole, shl-below}
-use Rattle.std.proofs.shelf.Tests.{and-from, and-left, and-right, cases-lt, cond-false, cond-true, eq-eqb, le-leb, le-ltb, lt-leb, lt-ltb, ne-eqb}
+use Rattle.std.proofs.shelf.Tests.{and-parts, cond-both, leb-true, and-from, and-left, and-right, cases-lt, cond-false, cond-true, eq-eqb, le-leb, le-ltb, lt-leb, lt-ltb, ne-eqb}
 use Rattle.std.specs.declared.option.Option.{Option}
 use Rattle.std.specs.declared.option.Option.the-variants.{Some, None}
 use Rattle.units.specs.Bits.{has, span, with-span, countBelow, countOf, absentFrom, firstAbsent, lastBelow, lastOf}
@@ -224,3 +224,16 @@ has-with-span bits from to k = ⊎-elim
     apart : (k < from) ⊎ (from ≤ k) → to < from → (leb from k && leb k to) ≡ false
     apart (inl l) q = and-left _ _ (lt-leb from k l)
     apart (inr l) q = and-right (leb from k) _ (lt-leb k to (omega arith))
+
+-- a set of numbers below k that gets more of them
+pub with-span-low : (k bits from to : ℕ) → bits < 2 ^ k → to < k → with-span bits from to < 2 ^ k
+with-span-low k bits from to low h = cond-both (leb from to && leb to 127) _ _ (λ x. x < 2 ^ k) grows (λ _. low)
+  where
+    grows : (leb from to && leb to 127) ≡ true → bitOr bits (span from to) < 2 ^ k
+    grows t =
+        let order : from ≤ to = leb-true from to (and-parts (leb from to) (leb to 127) t .0) in
+        let m = to - from + 1 in
+        let below : span from to < 2 ^ (m + from) = shl-below (2 ^ m - 1) m from (omega (arith, pow-pos m)) in
+        let narrow : m + from ≤ k = omega arith in
+        let le : 2 ^ (m + from) ≤ 2 ^ k = pow-le-pow-right {n = 2} (omega arith) {i = m + from} {j = k} narrow in
+        or-lt k bits (span from to) low (omega (arith, below, le))

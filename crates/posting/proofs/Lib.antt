@@ -1,0 +1,4 @@
+pub mod Accounts
+pub mod Blocks
+pub mod Search
+pub mod Sums

@@ -1,0 +1,4 @@
+pub mod Members
+pub mod Sheets
+pub mod Days
+pub mod Missing

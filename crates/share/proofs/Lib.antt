@@ -1,0 +1,5 @@
+pub mod Alive
+pub mod Parts
+pub mod Fairness
+pub mod Walks
+pub mod Splits

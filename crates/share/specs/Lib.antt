@@ -1,0 +1,4 @@
+pub mod Held
+pub mod Keys
+pub mod Loads
+pub mod Shares

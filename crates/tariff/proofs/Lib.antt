@@ -1,0 +1,4 @@
+mod Penalties
+mod Rates
+mod Sizes
+mod Table

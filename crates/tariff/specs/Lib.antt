@@ -1,0 +1,7 @@
+pub mod Bands
+pub mod Charges
+pub mod Figures
+pub mod Penalties
+pub mod Rates
+pub mod Table
+pub mod Waivers
