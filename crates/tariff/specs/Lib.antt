@@ -1,6 +1,5 @@
 pub mod Bands
 pub mod Charges
-pub mod Figures
 pub mod Penalties
 pub mod Rates
 pub mod Table

@@ -12,7 +12,6 @@ use units::fault::Fault;
 ghost use Rattle.std.specs.Results.{Cases};
 ghost use Rattle.std.specs.declared.option.Option.the-variants.{None, Some};
 ghost use Rattle.tariff.specs.Bands.{banded, edgesOf};
-ghost use Rattle.tariff.specs.Figures.{Worked-figures};
 ghost use Rattle.tariff.specs.Penalties.{penal, penaltyRefused};
 ghost use Rattle.tariff.specs.Waivers.{waived};
 ghost use lib.IntN.{pos};
@@ -30,13 +29,6 @@ pub fn charge_of_pile(
 {
     let penalty = Penalty::new(bands, station, due)?;
     Ok(Waiver::new(penalty, disturbed).charge(query))
-}
-
-/// The rules at figures that were worked out by hand.
-pub fn worked_figures() -> u8
-    ensures { λ _. ⌜ Worked-figures ⌝ }
-{
-    0
 }
 
 #[cfg(test)]

@@ -7,11 +7,11 @@ use Rattle.std.specs.declared.option.Option.the-variants.{Some, None}
 use Rattle.units.specs.Bits.{has, span, with-span, countBelow, countOf, absentFrom, firstAbsent, lastBelow, lastOf}
 use lib.Bits.{bitOr, or-step, shifted-even}
 use Rattle.std.specs.Numbers.{Checked}
-use lib.Count.{under, ones, ones-step, onesIn, trailingZeros, leadingZeros, leading-of-zero}
+use lib.Count.{under, ones, ones-le, ones-step, onesIn, trailingZeros, leadingZeros, leading-of-zero}
 use lib.Dec.{eqb, leb, ltb}
 use mathlib.Core.Bool.{Bool, true, false, cond, _&&_, _||_}
 use mathlib.Core.Logic.{_⊎_, inl, inr, ⊎-elim}
-use mathlib.Core.Path.{_≡_, refl, sym, ap, _∙_}
+use mathlib.Core.Path.{_≡_, refl, sym, ap, subst, _∙_}
 use Rattle.std.proofs.shelf.Ways.{tells}
 use native.Mathlib.Nat.{add-zero, zero-add, div-one, div-div-eq-div-mul, pow-le-pow-right, suc-mul, div-eq-of-lt, mul-assoc, mul-comm, mul-one, pow-suc, zero-div, suc-add, add-suc, div-eq-of-lt-le}
 use native.Mathlib.Numerals.{add-one, sub-one}
@@ -237,3 +237,9 @@ with-span-low k bits from to low h = cond-both (leb from to && leb to 127) _ _ (
         let narrow : m + from ≤ k = omega arith in
         let le : 2 ^ (m + from) ≤ 2 ^ k = pow-le-pow-right {n = 2} (omega arith) {i = m + from} {j = k} narrow in
         or-lt k bits (span from to) low (omega (arith, below, le))
+
+-- a set of numbers below k has at most k of them
+pub count-low : (k bits : ℕ) → bits < 2 ^ k → k ≤ 128 → countOf bits ≤ k
+count-low k bits low h =
+    let wide : 2 ^ k ≤ 2 ^ 128 = pow-le-pow-right {n = 2} (omega arith) {i = k} {j = 128} h in
+    subst (λ n. n ≤ k) (count-ones-count bits (omega (arith, low, wide))) (ones-le k bits low)

@@ -1,0 +1,11 @@
+mod Changes
+mod Kept
+mod Missing
+mod OpeningChecks
+mod OpeningPages
+mod OpeningStations
+mod Owners
+mod Places
+mod Runs
+mod Values
+mod Writes

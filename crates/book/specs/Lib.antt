@@ -1,0 +1,12 @@
+pub mod Calls
+pub mod Causes
+pub mod Lists
+pub mod Opening
+pub mod Promises
+pub mod Questions
+pub mod Refusals
+pub mod Runs
+pub mod Sheets
+pub mod Sound
+pub mod States
+pub mod Stations
