@@ -2,7 +2,7 @@
 use Prim.Native.Nat.{ℕ, _+_, _*_, _≤_, _<_}
 use Rattle.book.specs.Lists.{spliced}
 use Rattle.book.specs.Refusals.{first, when}
-use Rattle.book.specs.States.{shortPage}
+use Rattle.book.specs.States.{Room, lengthsIn, shortFor}
 use Rattle.book.specs.declared.book.Book.{Book}
 use Rattle.book.specs.declared.pages.Pages.{Pages}
 use Rattle.book.specs.declared.station.Station.{Station}
@@ -58,15 +58,6 @@ abbrev pub badInstalled : ℕ → List ℕ → Option Fault
 badInstalled g [] = None
 badInstalled g (kw ∷ kws) = cond (leb 1000 kw && leb kw 200000) (badInstalled (g + 1) kws) (Some (InstalledRange g kw))
 
--- the first page that is too short for so many stations and generators
-abbrev pub shortFor : ℕ → ℕ → Pages → Option Fault
-shortFor stations generators p = first (
-    shortPage 1 (length (vec-items (p .schedules))) (96 * stations)
-    ∷ shortPage 2 (length (vec-items (p .capacities))) (96 * generators)
-    ∷ shortPage 3 (length (vec-items (p .readings))) (96 * generators)
-    ∷ shortPage 4 (length (vec-items (p .accounts))) generators
-    ∷ [])
-
 -- the causes in the order in which they count
 abbrev pub openingFault : Opening → Pages → Option Fault
 openingFault o p =
@@ -78,7 +69,7 @@ openingFault o p =
     ∷ badStations 0 kinds counts
     ∷ installedCount (length installed) (generatorsIn counts)
     ∷ badInstalled 0 installed
-    ∷ shortFor (length kinds) (generatorsIn counts) p
+    ∷ shortFor (length kinds) (generatorsIn counts) (lengthsIn p)
     ∷ [])
 
 -- the stations as the day begins
@@ -168,13 +159,6 @@ pub record Stands (kinds counts : List ℕ) : Type 0 where
   pub same : length counts ≡ length kinds
   pub sound : badStations 0 kinds counts ≡ None
 
--- the pages have room for so many stations and generators
-pub record Room (stations generators : ℕ) (p : Pages) : Type 0 where
-  pub schedules : 96 * stations ≤ length (vec-items (p .schedules))
-  pub capacities : 96 * generators ≤ length (vec-items (p .capacities))
-  pub readings : 96 * generators ≤ length (vec-items (p .readings))
-  pub accounts : generators ≤ length (vec-items (p .accounts))
-
 -- an opening without fault, of n generators
 pub record Openable (o : Opening) (p : Pages) (n : ℕ) : Type 0 where
   pub stations : Stands (vec-items (o .kinds)) (vec-items (o .counts))
@@ -182,4 +166,4 @@ pub record Openable (o : Opening) (p : Pages) (n : ℕ) : Type 0 where
   pub most : n ≤ 512
   pub each : length (vec-items (o .installed)) ≡ n
   pub installable : Installable (vec-items (o .installed))
-  pub room : Room (length (vec-items (o .kinds))) n p
+  pub room : Room (length (vec-items (o .kinds))) n (lengthsIn p)

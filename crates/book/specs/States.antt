@@ -72,20 +72,51 @@ ownerOf s g = ownerFrom 0 (s .stations) g
 abbrev pub shortPage : ℕ → ℕ → ℕ → Option Fault
 shortPage page given needed = when (ltb given needed) (ShortPage page needed)
 
-abbrev pub shortPages : State → Option Fault
-shortPages s = first (
-    shortPage 1 (length (s .schedules)) (96 * length (s .stations))
-    ∷ shortPage 2 (length (s .capacities)) (96 * generators s)
-    ∷ shortPage 3 (length (s .readings)) (96 * generators s)
-    ∷ shortPage 4 (length (s .accounts)) (generators s)
+-- how many entries the four pages have
+pub record Lengths : Type 0 where
+  pub schedules : ℕ
+  pub capacities : ℕ
+  pub readings : ℕ
+  pub accounts : ℕ
+
+abbrev pub lengthsIn : Pages → Lengths
+lengthsIn p = record {
+  schedules = length (vec-items (p .schedules));
+  capacities = length (vec-items (p .capacities));
+  readings = length (vec-items (p .readings));
+  accounts = length (vec-items (p .accounts));
+}
+
+abbrev pub lengthsOf : State → Lengths
+lengthsOf s = record {
+  schedules = length (s .schedules);
+  capacities = length (s .capacities);
+  readings = length (s .readings);
+  accounts = length (s .accounts);
+}
+
+-- the first page that is too short for so many stations and generators
+abbrev pub shortFor : ℕ → ℕ → Lengths → Option Fault
+shortFor stations generators l = first (
+    shortPage 1 (l .schedules) (96 * stations)
+    ∷ shortPage 2 (l .capacities) (96 * generators)
+    ∷ shortPage 3 (l .readings) (96 * generators)
+    ∷ shortPage 4 (l .accounts) generators
     ∷ [])
 
+abbrev pub shortPages : State → Option Fault
+shortPages s = shortFor (length (s .stations)) (generators s) (lengthsOf s)
+
+-- the pages have room for so many stations and generators
+pub record Room (stations generators : ℕ) (l : Lengths) : Type 0 where
+  pub schedules : 96 * stations ≤ l .schedules
+  pub capacities : 96 * generators ≤ l .capacities
+  pub readings : 96 * generators ≤ l .readings
+  pub accounts : generators ≤ l .accounts
+
 -- no page is too short
-pub record Fit (s : State) : Type 0 where
-  pub schedules : 96 * length (s .stations) ≤ length (s .schedules)
-  pub capacities : 96 * generators s ≤ length (s .capacities)
-  pub readings : 96 * generators s ≤ length (s .readings)
-  pub accounts : generators s ≤ length (s .accounts)
+abbrev pub Fit : State → Type 0
+Fit s = Room (length (s .stations)) (generators s) (lengthsOf s)
 
 abbrev pub noStationOf : List Station → ℕ → Option Fault
 noStationOf ss t = when (leb (length ss) t) (NoSuchNumber t)

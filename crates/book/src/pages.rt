@@ -1,7 +1,8 @@
 //! The pages that a caller lends with each call.
 ghost use Prim.Native.Nat.{_≤_, _+_, _*_};
 ghost use Rattle.book.specs.Lists.{installedAt, spliced};
-ghost use Rattle.book.specs.Opening.{allDay, Begun, Installable, openedAccount, Room};
+ghost use Rattle.book.specs.Opening.{allDay, Begun, Installable, openedAccount};
+ghost use Rattle.book.specs.States.{lengthsIn, Room};
 ghost use Rattle.std.specs.Joined.{joined};
 ghost use Rattle.std.specs.Of.Vec.{vec-items, vec-len};
 ghost use Rattle.std.specs.declared.option.Option.the-variants.{Some};
@@ -172,7 +173,7 @@ impl Pages {
         requires few { ⌜ stations ≤ 16 ⌝ }
         requires most { ⌜ length (now installed) ≤ 512 ⌝ }
         requires installable { ⌜ Installable (now installed) ⌝ }
-        requires room { ⌜ Room stations (length (now installed)) (now self) ⌝ }
+        requires room { ⌜ Room stations (length (now installed)) (lengthsIn (now self)) ⌝ }
         ensures { λ _. ⌜ Begun stations (now (installed .entry)) (now (self .entry)) (now (self .exit)) ⌝ }
     {
         fill(&mut self.schedules, 0, BLOCKS * stations, 0);

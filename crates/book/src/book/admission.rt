@@ -1,7 +1,7 @@
 //! What every call tests first: the pages, the station or generator, and the station's phase.
 ghost use Prim.Native.Nat.{_≤_};
 ghost use Rattle.book.specs.Refusals.{Checks};
-ghost use Rattle.book.specs.States.{admission, Admitted, Fit, Found, generatorAdmission, generatorPresence, noStationOf, Owned, Owner, ownerFrom, presence, shortPage, shortPages, state, StationIs};
+ghost use Rattle.book.specs.States.{admission, Admitted, Fit, Found, generatorAdmission, generatorPresence, lengthsIn, noStationOf, Owned, Owner, ownerFrom, presence, Room, shortFor, shortPage, shortPages, state, StationIs};
 ghost use Rattle.std.specs.Of.Vec.{vec-items};
 ghost use mathlib.Core.Path.{_≡_};
 use super::Book;
@@ -14,7 +14,7 @@ use units::fault::Fault;
 use units::limits::BLOCKS;
 
 /// A page of `length` entries has the needed ones.
-pub fn long_enough(page: u64, length: usize, needed: usize) -> Result<(), Fault>
+fn long_enough(page: u64, length: usize, needed: usize) -> Result<(), Fault>
     ensures { λ r. ⌜ Checks (shortPage page length needed) (λ _. needed ≤ length) r ⌝ }
 {
     if length < needed {
@@ -26,15 +26,24 @@ pub fn long_enough(page: u64, length: usize, needed: usize) -> Result<(), Fault>
     Ok(())
 }
 
+/// The pages have room for so many stations and generators.
+pub fn fitting_pages(pages: &Pages, stations: usize, generators: usize) -> Result<(), Fault>
+    requires few { ⌜ stations ≤ 16 ⌝ }
+    requires most { ⌜ generators ≤ 512 ⌝ }
+    ensures { λ r. ⌜ Checks (shortFor stations generators (lengthsIn (now (pages .entry)))) (λ _. Room stations generators (lengthsIn (now (pages .entry)))) r ⌝ }
+{
+    long_enough(1, pages.schedules.len(), BLOCKS * stations)?;
+    long_enough(2, pages.capacities.len(), BLOCKS * generators)?;
+    long_enough(3, pages.readings.len(), BLOCKS * generators)?;
+    long_enough(4, pages.accounts.len(), generators)
+}
+
 impl<T: Tariff, K: Key> Book<T, K> {
     /// The pages are long enough for the book.
     pub(crate) fn fit(&self, pages: &Pages) -> Result<(), Fault>
         ensures { λ r. ⌜ Checks (shortPages (state (now (self .entry)) (now (pages .entry)))) (λ _. Fit (state (now (self .entry)) (now (pages .entry)))) r ⌝ }
     {
-        long_enough(1, pages.schedules.len(), BLOCKS * self.stations.len())?;
-        long_enough(2, pages.capacities.len(), BLOCKS * self.generators)?;
-        long_enough(3, pages.readings.len(), BLOCKS * self.generators)?;
-        long_enough(4, pages.accounts.len(), self.generators)
+        fitting_pages(pages, self.stations.len(), self.generators)
     }
 
     /// There is such a station.

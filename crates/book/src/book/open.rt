@@ -1,9 +1,8 @@
 //! Opens a book.
-ghost use Prim.Native.Nat.{_≤_};
-ghost use Rattle.book.specs.Opening.{Openable, openingFault, Opens, Room, shortFor};
+ghost use Rattle.book.specs.Opening.{Openable, openingFault, Opens};
 ghost use Rattle.book.specs.Refusals.{Checks};
 use super::Book;
-use super::admission::long_enough;
+use super::admission::fitting_pages;
 use crate::opening::installed_count;
 use crate::opening::installed_range;
 use crate::opening::lay_stations;
@@ -15,19 +14,6 @@ use std::alloc::Global;
 use tariff::tariff::Tariff;
 use units::call::Opening;
 use units::fault::Fault;
-use units::limits::BLOCKS;
-
-/// The pages have room for so many stations and generators.
-fn fitting_pages(pages: &Pages, stations: usize, generators: usize) -> Result<(), Fault>
-    requires few { ⌜ stations ≤ 16 ⌝ }
-    requires most { ⌜ generators ≤ 512 ⌝ }
-    ensures { λ r. ⌜ Checks (shortFor stations generators (now (pages .entry))) (λ _. Room stations generators (now (pages .entry))) r ⌝ }
-{
-    long_enough(1, pages.schedules.len(), BLOCKS * stations)?;
-    long_enough(2, pages.capacities.len(), BLOCKS * generators)?;
-    long_enough(3, pages.readings.len(), BLOCKS * generators)?;
-    long_enough(4, pages.accounts.len(), generators)
-}
 
 /// A book may be opened so, with these pages: the number of its generators.
 fn openable(opening: &Opening, pages: &Pages) -> Result<usize, Fault>
