@@ -1,9 +1,7 @@
 use Prim.Native.Nat.{_≤_, _<_}
 use Rattle.book.proofs.Changes.{bounded-at, drawn-back}
 use Rattle.book.proofs.book.Book.draw.Needs as need
-use Rattle.book.specs.Stations.{available, drawn}
 use lib.ListN.{length}
-use mathlib.Core.Path.{_≡_, ap, _∙_}
 use native.Mathlib.Omega.{arith}
 
 pub available-available-requires : need.available-available-requires
@@ -24,6 +22,6 @@ pub put-requires : need.put-requires
 put-requires g c κs =
     let b = c .args .self .now in
     let at = c .in-Continue-station .ensures tt .1 in
+    let x = c .in-Continue-station .station in
     let amount = c .in-Continue-sound-amount .ensures tt .1 in
-    let same : c .available-available .result ≡ _ = c .available-available .ensures ∙ ap available (at .is) in
-    drawn-back (b .stations .items) (c .args .t) (b .cash) (at .within) (b .low) (b .light) (b .covered) (b .«in_day») (b .«in_slots») (c .args .amount) _ (omega (arith, same)) (omega arith) (amount .0) (c .draw .ensures ∙ ap (drawn (c .args .amount)) (at .is))
+    drawn-back (b .stations .items) (c .args .t) (b .cash) (at .within) (b .low) (b .light) (b .covered) (b .«in_day») (b .«in_slots») (c .args .amount) x (c .draw .last .self) (omega (arith, c .available-available .ensures)) (omega arith) (amount .0) (at .is) (c .draw .ensures)

@@ -1,9 +1,7 @@
 use Prim.Native.Nat.{_≤_}
 use Rattle.book.proofs.Changes.{bounded-at, paid-back}
 use Rattle.book.proofs.book.Book.pay.Needs as need
-use Rattle.book.specs.Stations.{paid}
 use lib.ListN.{length}
-use mathlib.Core.Path.{ap, _∙_}
 use native.Mathlib.Omega.{arith}
 
 pub pay-requires : need.pay-requires
@@ -17,4 +15,5 @@ pub put-requires : need.put-requires
 put-requires g c κs =
     let b = c .args .self .now in
     let at = c .in-Continue-station .ensures tt .1 in
-    paid-back (b .stations .items) (c .args .t) (b .cash) (at .within) (b .low) (b .light) (b .covered) (b .«in_day») (b .«in_slots») (c .args .amount) _ (omega arith) (c .pay .ensures ∙ ap (paid (c .args .amount)) (at .is))
+    let x = c .in-Continue-station .station in
+    paid-back (b .stations .items) (c .args .t) (b .cash) (at .within) (b .low) (b .light) (b .covered) (b .«in_day») (b .«in_slots») (c .args .amount) x (c .pay .last .self) (omega arith) (at .is) (c .pay .ensures)
