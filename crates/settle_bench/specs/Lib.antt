@@ -1,0 +1,3 @@
+pub mod Days
+pub mod Full
+pub mod Reports
