@@ -5,4 +5,4 @@ use Rattle.units.proofs.bits.first_absent_in.Goals as goal
 pub returns : goal.returns
 returns c =
     let low : c.args.bits < 2 ^ 128 = search rules in
-    c.trailing-ones.ensures ∙ trailing_absent c.args.bits low
+    c.trailing_ones.ensures ∙ trailing_absent c.args.bits low
