@@ -1,4 +1,6 @@
 //! The book of one settlement day: its calls as computations on the book and the lent pages.
+#![tactic(auto)]
+
 mod answers;
 mod book;
 mod checks;

@@ -1,4 +1,6 @@
 //! Says in words what a line asks for, or why it is refused.
+#![tactic(auto)]
+
 use lines::read::{read_call, read_opening};
 use std::alloc::{AllocError, Global};
 use units::call::{Call, Opening};

@@ -1,4 +1,6 @@
 //! The rules at figures that were worked out by hand.
+#![tactic(auto)]
+
 ghost use Rattle.figures.specs.Figures.{WorkedFigures};
 
 /// The tariffs, the shares and the notices of revisions give the figures that were worked out by hand. The definitions are

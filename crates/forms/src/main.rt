@@ -1,4 +1,6 @@
 //! Reads lines from standard input, and prints what each asks for, or why it is refused.
+#![tactic(auto)]
+
 use describe::describe_line;
 use std::io;
 use std::io::Read;

@@ -1,4 +1,6 @@
 //! A station's day, taken from its pages: charges, deviations, and what each generator gets of them.
+#![tactic(auto)]
+
 pub mod account;
 pub mod block;
 pub mod day;

@@ -1,4 +1,6 @@
 //! The quote for a block before its schedule is filed or revised: what it will cost, and who bears it.
+#![tactic(auto)]
+
 use quoting::report::report;
 use std::io;
 

@@ -1,4 +1,6 @@
 //! Runs tariffs, splits and a station's day on a few figures.
+#![tactic(auto)]
+
 #[cfg(test)]
 mod days;
 #[cfg(test)]

@@ -1,4 +1,6 @@
 //! Settles full books, so that Rust can time it: `settle_full_books` is the one function that crosses.
+#![tactic(auto)]
+
 ghost use Rattle.book.specs.Sheets.{sheet_in};
 ghost use Rattle.book.specs.States.{state};
 ghost use Rattle.posting.specs.Sheets.{installed_of};

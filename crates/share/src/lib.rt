@@ -1,4 +1,6 @@
 //! A station's amounts, split among its generators by a key.
+#![tactic(auto)]
+
 pub mod generator;
 pub mod generators;
 pub mod key;

@@ -1,4 +1,6 @@
 //! Writes calls as their lines, answers and statements.
+#![tactic(auto)]
+
 pub mod answers;
 pub mod calls;
 pub mod figures;

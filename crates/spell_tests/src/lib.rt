@@ -1,4 +1,5 @@
 //! Runs the writers on a few pages.
+#![tactic(auto)]
 
 #[cfg(test)]
 mod tests {

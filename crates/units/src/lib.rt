@@ -1,4 +1,6 @@
 //! What all layers share: limits, refusals, the typed calls and sets of blocks.
+#![tactic(auto)]
+
 pub mod bits;
 pub mod call;
 pub mod fault;

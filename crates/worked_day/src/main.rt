@@ -1,4 +1,6 @@
 //! One day of one wind station through typed calls: each answer, then the station's statement.
+#![tactic(auto)]
+
 use anyhow::anyhow;
 use book::{Book, Pages};
 use posting::account::Account;

@@ -13,7 +13,7 @@ overflow-add-sum g c =
 pub loop-query-preserved : goal.loop-query-preserved
 loop-query-preserved g c =
     let loop = c.loop-query in
-    let charge = c.sized-charge-sum in
+    let charge = c.sized_charge-sum in
     sum_again loop.query-index _ _ c.loop-query-test.true loop.invariant.1 charge.ensures.small
     (g.T.Tariff.charge_of c.args.tariff.now) c.args.day.now _ c.told-day loop.invariant.0 charge.ensures.value
 
