@@ -3,10 +3,10 @@ use Rattle.tariff.proofs.day.total_of_day.Goals as goal
 use Rattle.tariff.specs.Charges.{total}
 use Rattle.std.proofs.Common.{ap, ◌∙◌, arith, take_all}
 
-pub overflow-add-sum : goal.overflow-add-sum
-overflow-add-sum g c =
+pub overflow_add-sum : goal.overflow_add-sum
+overflow_add-sum g c =
     let loop = c.loop-query in
-    let charge = c.sized-charge-sum in
+    let charge = c.sized_charge-sum in
     let small = simp loop.sum-is at loop.invariant.1 in
     simp loop.sum-is (sum_fits loop.query-index loop.sum charge.result c.loop-query-test.true small charge.ensures.small)
 

@@ -4,7 +4,7 @@ use Rattle.tokens.proofs.Pieces.{argued_number, argued_list, no_argument, no_lis
 use Rattle.grammar.specs.Grammar.{list}
 use Rattle.std.proofs.lemmas.List.{take_rest}
 use Rattle.tokens.proofs.parts.argument.Goals as goal
-use Rattle.tokens.proofs.parts.argument.Goals.{in-default-via-then-rest-lt1, in-default-via-else-rest-lt1+in-default·}
+use Rattle.tokens.proofs.parts.argument.Goals.{in_default-via-then-rest-lt1, in-default-via-else-rest-lt1+in-default·}
 
 pub returns-in-err-n : goal.returns-in-err-n
 returns-in-err-n c =
@@ -24,6 +24,6 @@ returns-in-Some c = argued_number _ _ _ _ refl c.in-Some.ensures
 pub returns-in-None : goal.returns-in-None
 returns-in-None c =
     no_argument c.args.rest.now c.in-None.ensures (λ some e. elim c.in-default.branch [
-      | in-default-via-then-rest-lt1 w ↦ omega (arith, ltb-true)
+      | in_default-via-then-rest-lt1 w ↦ omega (arith, ltb-true)
       | in-default-via-else-rest-lt1+in-default· w ↦ omega arith
     ])

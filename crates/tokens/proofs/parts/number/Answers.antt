@@ -5,7 +5,7 @@ use Rattle.tokens.proofs.parts.number.Goals.{in-default-via-then-rest-lt1, in-de
 
 pub returns-in-48-to-57 : goal.returns-in-48-to-57
 returns-in-48-to-57 c =
-    counted _ _ _ c.more-digits.result (omega arith) (omega arith) (omega arith) c.more-digits.ensures c.split-at.ensures.front c.split-at.ensures.back
+    counted _ _ _ c.more_digits.result (omega arith) (omega arith) (omega arith) c.more_digits.ensures c.split_at.ensures.front c.split_at.ensures.back
 
 pub returns-in-default : goal.returns-in-default
 returns-in-default c =

@@ -11,7 +11,7 @@ returns-in-Ok c =
 pub returns-in-Err : goal.returns-in-Err
 returns-in-Err c =
     let p = next_no_argument c.args.self.now.rest.now _ c.in-Err.left c.in-Some.ensures c.in-Err.ensures in
-    record { line = search rules; next = (_, c.not-form-in-Err.ensures, p.1) }
+    record { line = search rules; next = (_, c.not_form-in-Err.ensures, p.1) }
 
 pub returns-in-0 : goal.returns-in-0
 returns-in-0 c = record { line = search rules; next = next_end c.args.self.now.rest.now (omega (arith, c.in-0.is, ltb-false, tail_length c.args.self.now.rest.now)) (omega arith) }
