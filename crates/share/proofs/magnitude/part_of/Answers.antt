@@ -2,8 +2,8 @@ use Rattle.share.proofs.Parts.{quotient_within}
 use Rattle.share.proofs.magnitude.part_of.Goals as goal
 use Rattle.std.proofs.Common.{refl, arith}
 
-pub overflow-cast-result : goal.overflow-cast-result
-overflow-cast-result c =
+pub overflow_cast-result : goal.overflow_cast-result
+overflow_cast-result c =
     let small = quotient_within c.args.magnitude c.args.sum c.args.total c.requires.inside in
     rw (c.from-else-magnitude-lt-NARROW.ensures, c.from-else-magnitude-lt-NARROW-2.ensures, c.from-else-magnitude-lt-NARROW-3.ensures) (omega arith)
 

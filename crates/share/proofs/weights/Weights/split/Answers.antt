@@ -10,15 +10,15 @@ use Rattle.std.proofs.lemmas.Int.{to_z-of_z}
 pub loop-i-init : goal.loop-i-init
 loop-i-init c =
     let none = c.none-portion.ensures in
-    (refl, none.magnitude ∙ c.unsigned-abs.ensures.value, none.total, none.sum, λ k h. let none : ⊥ = omega arith in elim none [ ], λ k h. zeros 32 k)
+    (refl, none.magnitude ∙ c.unsigned_abs.ensures.value, none.total, none.sum, λ k h. let none : ⊥ = omega arith in elim none [ ], λ k h. zeros 32 k)
 
 pub grown-next-requires : goal.grown-next-requires
 grown-next-requires c =
     let full : length c.args.self.now.each ≡ 32 = omega arith in
     omega (arith, (with_next c.args.self.now c.loop-i.i c.loop-i.portion.sum full c.loop-i-test.true c.loop-i.invariant.3).1)
 
-pub overflow-sub-next : goal.overflow-sub-next
-overflow-sub-next c =
+pub overflow_sub-next : goal.overflow_sub-next
+overflow_sub-next c =
     let full : length c.args.self.now.each ≡ 32 = omega arith in
     let next = c.grown-next.ensures in
     (turn c.args.self.now c.loop-i.i c.loop-i.portion c.grown-next.result full c.loop-i-test.true c.loop-i.invariant.3 c.loop-i.invariant.2 next.magnitude next.total next.sum).grows
@@ -31,7 +31,7 @@ loop-i-preserved c =
     let m = to_z w64 (of_z w64 c.args.amount) in
     let x = to_z w64 (of_z w64 c.signed.result) in
     let here : c.loop-i.i < length c.loop-i.shares = omega arith in
-    let share = to_z-of_z w64 c.signed.result (record { sfits = c.signed.type-inv }) ∙ c.signed.ensures ∙ t.share m c.loop-i.invariant.1 in (
+    let share = to_z-of_z w64 c.signed.result (record { sfits = c.signed.type_inv }) ∙ c.signed.ensures ∙ t.share m c.loop-i.invariant.1 in (
       rw length-set c.loop-i.invariant.0,
       next.magnitude ∙ c.loop-i.invariant.1,
       next.total ∙ c.loop-i.invariant.2,
