@@ -5,17 +5,17 @@ use Rattle.spell.proofs.Holding.{held_rooms}
 use Rattle.spell.proofs.Refusing.{spells_short, spells_unheld, spells_long, spells}
 use Rattle.spell.proofs.calls.spell.Goals as goal
 
-pub returns-then-page-lt-LINE-PAGE : goal.returns-then-page-lt-LINE-PAGE
-returns-then-page-lt-LINE-PAGE c = spells_short _ _ _ (omega arith)
+pub returns-then-page-lt-LINE_PAGE : goal.returns-then-page-lt-LINE_PAGE
+returns-then-page-lt-LINE_PAGE c = spells_short _ _ _ (omega arith)
 
 pub returns-then-held-words : goal.returns-then-held-words
-returns-then-held-words c = spells_unheld _ _ _ c.held-words-held.result (omega arith) c.held-words-held.ensures (simp length-map c.if-held-words.true)
+returns-then-held-words c = spells_unheld _ _ _ c.held_words-held.result (omega arith) c.held_words-held.ensures (simp length-map c.if-held-words.true)
 
 pub line-length-requires : goal.line-length-requires
 line-length-requires c = omega (arith, held_rooms c.args.words.now (omega arith))
 
-pub returns-then-length-gt-LONGEST-LINE : goal.returns-then-length-gt-LONGEST-LINE
-returns-then-length-gt-LONGEST-LINE c =
+pub returns-then-length-gt-LONGEST_LINE : goal.returns-then-length-gt-LONGEST_LINE
+returns-then-length-gt-LONGEST_LINE c =
     spells_long _ _ _ c.line-length.result (omega arith) (simp length-map (omega arith)) (omega (arith, c.line-length.ensures.text.place)) (omega arith)
 
 pub line-requires : goal.line-requires

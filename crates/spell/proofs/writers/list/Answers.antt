@@ -4,6 +4,6 @@ use Rattle.spell.proofs.writers.list.Goals as goal
 
 pub returns : goal.returns
 returns c = record {
-  text = lays_then (lays_then c.put-at.ensures c.spaced-numbers-at.ensures.text) c.put.ensures;
+  text = lays_then (lays_then c.put-at.ensures c.spaced_numbers-at.ensures.text) c.put.ensures;
   bound = omega arith;
 }

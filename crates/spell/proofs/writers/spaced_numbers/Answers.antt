@@ -3,8 +3,8 @@ use Rattle.spell.proofs.Laying.{lays_none, lays_as, lays_then}
 use Rattle.spell.proofs.Texts.{spaced_none, spaced_parts, rest_length}
 use Rattle.spell.proofs.writers.spaced_numbers.Goals as goal
 
-pub returns-in-default : goal.returns-in-default
-returns-in-default c = record { text = lays_as (spaced_none c.args.ns.now (omega (arith, ltb-true))) (lays_none _ _); bound = omega arith }
+pub returns-in_default : goal.returns-in_default
+returns-in_default c = record { text = lays_as (spaced_none c.args.ns.now (omega (arith, ltb-true))) (lays_none _ _); bound = omega arith }
 
 pub returns : goal.returns
 returns c = record {
