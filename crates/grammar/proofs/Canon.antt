@@ -1,13 +1,12 @@
 -- A call is read back from its spelling.
-use Rattle.std.proofs.Common.{◌≡◌, ℕ, ◌+◌, ◌-◌, ◌*◌, ◌^◌, ◌<◌, ◌≤◌, Bool, true, false, ◌&&◌, eqb, List, [], ◌∷◌, ◌++◌, map, length, get_or, decimal, sym, refl, ap, ◌∙◌, subst, ⊎_elim, append_assoc, append-nil, arith, rules}
+use Rattle.std.proofs.Common.{◌≡◌, ℕ, ◌^◌, ◌<◌, true, false, eqb, List, [], ◌∷◌, ◌++◌, map, length, decimal, sym, refl, ap, ◌∙◌, ⊎_elim, append_assoc, append-nil, arith, rules}
 use lib.ListN.{length-map}
 use Rattle.std.specs.Int.{is_in_range}
 use Rattle.std.specs.List.{AllByRecursion as All}
 use Rattle.std.proofs.lemmas.Str.Parse.{IsNumeralModel, numerals_by_fold}
 use Rattle.std.proofs.lemmas.Fmt.{digits_decimal, digits_value-decimal, length-decimal-le, decimal_nonempty, first_decimal, decimal_digit}
-use Rattle.std.proofs.lemmas.Bool.{cases_lt, cond-true, cond-false, and_parts, ne_eqb, leb-true}
-use Rattle.grammar.specs.Grammar as grammar
-use Rattle.grammar.specs.Grammar.{all_within, Word, Numeral, Numbers, spaced, Arg, SoundArg, Sound, spelled}
+use Rattle.std.proofs.lemmas.Bool.{cases_lt, cond-false, and_parts, ne_eqb, leb-true}
+use Rattle.grammar.specs.Grammar.{all_within, Word, Numeral, spaced, SoundArg, Sound}
 use Rattle.grammar.specs.Calls.{Value, one, many, Asked, Small, Held, argument, form, read_on, pieces, value, Canonical}
 use Rattle.grammar.proofs.Reading.{one_form}
 

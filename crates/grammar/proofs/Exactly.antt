@@ -1,12 +1,11 @@
 -- A line has one answer.
-use Rattle.std.proofs.Common.{◌≡◌, ℕ, ◌-◌, ◌<◌, ◌≤◌, Bool, true, cond, eqb, List, [], ◌∷◌, map, length, get_or, take, Ok, Err, sym, refl, ap, ◌∙◌, subst, ⊎_elim, arith}
-use Rattle.std.specs.List.{AllByRecursion as All}
+use Rattle.std.proofs.Common.{◌≡◌, ℕ, ◌-◌, ◌<◌, Bool, true, cond, eqb, List, [], ◌∷◌, map, length, get_or, take, sym, refl, ap, ◌∙◌, subst, ⊎_elim, arith}
 use Rattle.std.proofs.lemmas.List.{take-take}
 use Rattle.std.proofs.lemmas.Bool.{cases_lt}
-use Rattle.grammar.specs.Calls.{Value, one, many, Asked, asked, opens, name, sorts, head_of, values_of, Held, argument, form, Misfit}
-use Rattle.grammar.specs.Grammar.{Word, Arg, Form, Sound, spelled, NotForm}
-use Rattle.grammar.specs.Laws.{value_sort, Exact, CallsExact, OpeningsExact}
-use Rattle.grammar.specs.Reads.{calls, openings, arg_sort, has_list, Is, Heads, Refused, long, no_form, no_head, misfit, no_memory, Accepted, ReadsCall, ReadsOpening}
+use Rattle.grammar.specs.Calls.{Value, one, many, Asked, asked, opens, name, sorts, head_of, argument, form, Misfit}
+use Rattle.grammar.specs.Grammar.{Word, Form, spelled, NotForm}
+use Rattle.grammar.specs.Laws.{value_sort, CallsExact, OpeningsExact}
+use Rattle.grammar.specs.Reads.{calls, openings, arg_sort, has_list, Is, Heads, Refused, long, no_form, no_head, misfit, no_memory, Accepted}
 use Rattle.grammar.specs.declared.heads.Head.{Head}
 use Rattle.grammar.specs.declared.heads.Head.TheVariants.{File, Declare, Issue, Revise, Close, Read, Settle, Correct, Pay, Draw, Open}
 use Rattle.grammar.specs.declared.heads.Sort.{Sort}

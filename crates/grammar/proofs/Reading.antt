@@ -1,11 +1,11 @@
 -- `outcome` finds the form that a line spells, or the longest start of a form.
-use Rattle.std.proofs.Common.{◌≡◌, ℕ, zero, suc, ◌+◌, ◌-◌, ◌<◌, ◌≤◌, Bool, true, false, cond, ◌&&◌, eqb, ltb, leb, ◌⊎◌, List, [], ◌∷◌, ◌++◌, length, get_or, take, drop, IfSome, Some, None, Option, sym, refl, ap, ◌∙◌, subst, inl, inr, ⊎_elim, append_assoc, append-nil, arith, length-append, take-append-drop, rules}
+use Rattle.std.proofs.Common.{◌≡◌, ℕ, zero, suc, ◌+◌, ◌-◌, ◌<◌, ◌≤◌, true, ◌&&◌, eqb, ltb, List, [], ◌∷◌, ◌++◌, length, get_or, take, IfSome, Some, None, sym, refl, ap, ◌∙◌, subst, append_assoc, append-nil, arith}
 use Rattle.std.specs.List.{flat_map, AllByRecursion as All}
 use Rattle.std.specs.Int.{is_in_range as within}
 use Rattle.std.proofs.lemmas.List.{flat_map_more, length_push}
 use Rattle.std.proofs.lemmas.Bool.{cond_both, cond-true, cond-false, eqb-true, ne_eqb, ltb-true, lt-ltb, and_parts, and_from}
 use Rattle.std.proofs.lemmas.Bool.Decides.{nat_tests}
-use Rattle.grammar.specs.Grammar.{all_within, Word, Numeral, spaced, Numbers, Arg, number, list, spelled_arg, SoundArg, Form, Sound, opened, spelled, Begins, Longest, NotForm}
+use Rattle.grammar.specs.Grammar.{all_within, Word, Numeral, spaced, Arg, number, list, spelled_arg, SoundArg, Form, Sound, opened, spelled, Begins, NotForm}
 use Rattle.grammar.specs.Machine.{with_arg, led, Spot, top, inside, State, start, word, need, digits, closed, done, grows, after, listed, numbered, named, opens, step, Outcome, whole, stuck, ended, outcome}
 
 -- the bytes that lead to a state

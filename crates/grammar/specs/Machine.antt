@@ -2,7 +2,7 @@
 --
 -- Nothing that a public call promises is said in these words: `proofs/Reading.antt` shows that
 -- `outcome` finds the form that a line spells, or the longest start of a form.
-use Rattle.std.specs.Prelude.{ℕ, suc, Bool, true, false, cond, ◌&&◌, List, [], ◌∷◌, ◌++◌, length, Some, None, Option, ◌==◌, nat_lt, slice_index}
+use Rattle.std.specs.Prelude.{ℕ, suc, Bool, false, cond, ◌&&◌, List, [], ◌∷◌, ◌++◌, length, Some, None, Option, ◌==◌, nat_lt, slice_index}
 use Rattle.std.specs.List.{flat_map}
 use Rattle.std.specs.Int.{is_in_range}
 use Rattle.grammar.specs.Grammar.{Arg, number, list, Form}

@@ -1,6 +1,6 @@
 -- A search for the first capacity that is too large, entry by entry; and what a penalty keeps of the laws below it.
-use Rattle.std.specs.Prelude.{◌≡◌, ℕ, suc, ◌+◌, ◌*◌, ◌<◌, ◌≤◌, Bool, true, false, cond, List, [], ◌∷◌, length, get_or, drop, ℤ, pos, negsuc, Some, None, Option, slice_index_or, unsigned_abs}
-use Rattle.std.proofs.lemmas.Bool.{cond_both, cond-true, cond-false, le-ltb, lt-ltb, ltb-true, ltb-false}
+use Rattle.std.specs.Prelude.{◌≡◌, ℕ, suc, ◌+◌, ◌*◌, ◌<◌, ◌≤◌, Bool, true, false, cond, List, ◌∷◌, length, get_or, drop, ℤ, pos, negsuc, Some, None, Option, slice_index_or, unsigned_abs}
+use Rattle.std.proofs.lemmas.Bool.{cond-true, cond-false, le-ltb, lt-ltb}
 use Rattle.tariff.specs.Charges.{magnitude}
 use Rattle.layers.specs.Penalties.{first_one_above, trebled, at_capacity, applies, raised, corrected, due_capacity, penal}
 use Rattle.tariff.specs.declared.query.Query.{Query}

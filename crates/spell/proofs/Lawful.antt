@@ -1,5 +1,5 @@
 -- What is written of a call reads back as the call. Assumes nothing.
-use Rattle.std.proofs.Common.{◌≡◌, ℕ, suc, ◌≤◌, Bool, true, false, cond, ◌&&◌, ltb, leb, List, [], ◌∷◌, map, length, take, Ok, Err, Result, sym, refl, ap, ◌∙◌, subst, arith}
+use Rattle.std.proofs.Common.{◌≡◌, ℕ, suc, ◌≤◌, true, false, cond, leb, List, [], ◌∷◌, map, length, take, Ok, Err, Result, sym, refl, ap, ◌∙◌, subst, arith}
 use Rattle.std.specs.List.{AllByRecursion as All}
 use Rattle.std.proofs.lemmas.List.{take_at}
 use Rattle.std.proofs.lemmas.Bool.{and_parts, and_from, ltb-true, lt-ltb, le-leb, leb-true}
@@ -11,7 +11,7 @@ use Rattle.grammar.specs.Grammar.{spelled}
 use Rattle.grammar.specs.Laws.{Exact}
 use Rattle.grammar.specs.Reads.{Accepted, ReadsCall, ReadsOpening}
 use Rattle.grammar.proofs.Exactly.{calls_exact, openings_exact}
-use Rattle.spell.specs.Laws.{Same, ReadBack, FitsLine, OneLine, OneLineEach, WrittenFits, Both}
+use Rattle.spell.specs.Laws.{Same, ReadBack, FitsLine, OneLineEach, WrittenFits, Both}
 use Rattle.spell.specs.Pages.{wrote, onto}
 use Rattle.spell.specs.Spelling.{spelling}
 use Rattle.spell.specs.Words.{small, all_are_small, holds, held_first}

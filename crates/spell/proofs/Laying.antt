@@ -1,7 +1,7 @@
 -- One text laid after another. Assumes nothing.
-use Rattle.std.proofs.Common.{◌≡◌, ℕ, zero, suc, ◌+◌, ◌<◌, ◌≤◌, List, [], ◌∷◌, ◌++◌, length, get_or, take, drop, set, Ok, sym, refl, ap, ◌∙◌, subst, add-zero, add-suc, suc-add, arith, length-append, length-set}
+use Rattle.std.proofs.Common.{◌≡◌, ℕ, suc, ◌+◌, ◌<◌, ◌≤◌, List, [], ◌∷◌, ◌++◌, length, get_or, take, drop, set, Ok, sym, refl, ap, ◌∙◌, subst, arith, length-append, length-set}
 use Rattle.std.specs.List.{flat_map}
-use Rattle.std.proofs.lemmas.List.{flat_map_more, take_more, take_all, take_more_set, drop-set-lt, take-append-drop, append_assoc}
+use Rattle.std.proofs.lemmas.List.{flat_map_more, take_more, take_more_set, drop-set-lt, take-append-drop, append_assoc}
 use Rattle.spell.specs.Pages.{laid, Lays, onto, wrote}
 
 laid_append : (at : ℕ) (s t page : List ℕ) → laid at (s ++ t) page ≡ laid (at + length s) t (laid at s page)

@@ -1,10 +1,10 @@
 -- Which cause refuses a text, or none. Assumes nothing.
-use Rattle.std.proofs.Common.{◌≡◌, ℕ, suc, ◌+◌, ◌<◌, ◌≤◌, Bool, true, false, cond, ltb, List, [], ◌∷◌, length, Ok, Err, Result, sym, refl, ap, ◌∙◌, arith}
+use Rattle.std.proofs.Common.{◌≡◌, ℕ, suc, ◌+◌, ◌<◌, ◌≤◌, Bool, true, false, ltb, List, [], ◌∷◌, length, Ok, Err, sym, refl, ap, ◌∙◌, arith}
 use Rattle.std.proofs.lemmas.Bool.{cond-true, cond-false, lt-ltb, le-ltb, ltb-false}
 use Rattle.units.specs.declared.fault.Fault.{Fault}
 use Rattle.units.specs.declared.fault.Fault.TheVariants.{ShortOutput, BadArgument, LongLine}
 use Rattle.spell.specs.Pages.{Lays, Wrote, wrote, writing, onto}
-use Rattle.spell.specs.Spelling.{causes, spelling_of}
+use Rattle.spell.specs.Spelling.{spelling_of}
 use Rattle.spell.specs.Words.{held_first}
 use Rattle.spell.proofs.Laying.{lays_onto}
 

@@ -5,7 +5,7 @@ use Rattle.units.specs.declared.call.Call.TheVariants.{Pay}
 use Rattle.grammar.specs.Calls.{Asked, one, many, asked, form}
 use Rattle.grammar.specs.Grammar.{spelled}
 use Rattle.spell.specs.Answers.{answer_text}
-use Rattle.spell.specs.Statements.{station_text, generator_text, statement_text}
+use Rattle.spell.specs.Statements.{statement_text}
 use Rattle.spell.specs.declared.figures.StationLine.{StationLine}
 use Rattle.spell.specs.declared.figures.GeneratorLine.{GeneratorLine}
 

@@ -1,7 +1,7 @@
 -- What the operations on bits make of the numbers in a set.
-use Rattle.std.proofs.Common.{◌≡◌, ℕ, zero, suc, ◌+◌, ◌-◌, ◌*◌, ◌/◌, ◌%◌, ◌^◌, ◌<◌, ◌≤◌, max, Bool, true, false, cond, ◌&&◌, ◌||◌, eqb, ltb, leb, ◌⊎◌, Some, None, Option, sym, refl, ap, ◌∙◌, subst, inl, inr, ⊎_elim, add-zero, add-suc, mul_assoc, suc-mul, mul_comm, suc-add, pow-suc, zero-add, mul-one, div-one, add-one, sub-one, arith}
-use Rattle.std.proofs.lemmas.Nat.{or_shr, pow-add, pow_pos, shl-shr, shr_high, shr-shr, or_lt, leading_top, one_shl, shl_whole, shl_below}
-use Rattle.std.proofs.lemmas.Bool.{and_parts, cond_both, leb-true, and_from, and_left, and_right, cases_lt, cond-false, cond-true, eq-eqb, le-leb, le-ltb, lt-leb, lt-ltb, ne_eqb}
+use Rattle.std.proofs.Common.{◌≡◌, ℕ, zero, suc, ◌+◌, ◌-◌, ◌*◌, ◌/◌, ◌%◌, ◌^◌, ◌<◌, ◌≤◌, max, Bool, true, false, cond, ◌&&◌, ◌||◌, eqb, ltb, leb, ◌⊎◌, Some, None, Option, sym, refl, ap, ◌∙◌, subst, inl, inr, ⊎_elim, add-zero, add-suc, mul_assoc, suc-mul, mul_comm, pow-suc, zero-add, div-one, add-one, arith}
+use Rattle.std.proofs.lemmas.Nat.{or_shr, pow-add, pow_pos, shl-shr, shr_high, shr-shr, or_lt, leading_top, shl_whole, shl_below}
+use Rattle.std.proofs.lemmas.Bool.{and_parts, cond_both, leb-true, and_from, and_left, and_right, cases_lt, cond-false, cond-true, le-leb, le-ltb, lt-leb, lt-ltb}
 use Rattle.units.specs.Bits.{has, span, with_span, count_below, count_of, absent_from, first_absent_of, last_below, last_of}
 use lib.Bits.{bit_or, or_step, shifted_even}
 use Rattle.std.specs.Option.{SomeIff}

@@ -1,4 +1,4 @@
-use Rattle.std.proofs.Common.{◌^◌, ◌<◌, sym, subst, arith, rules}
+use Rattle.std.proofs.Common.{◌^◌, ◌<◌, arith, rules}
 use Rattle.spell.proofs.Answering.{answers_ok, answers_err}
 use Rattle.spell.proofs.Refusing.{short}
 use Rattle.spell.proofs.answers.write_answer.Goals as goal

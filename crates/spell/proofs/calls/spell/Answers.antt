@@ -1,6 +1,5 @@
 use Rattle.std.proofs.Common.{arith}
 use lib.ListN.{length-map}
-use Rattle.spell.specs.Words.{held_word}
 use Rattle.spell.proofs.Holding.{held_rooms}
 use Rattle.spell.proofs.Refusing.{spells_short, spells_unheld, spells_long, spells}
 use Rattle.spell.proofs.calls.spell.Goals as goal

@@ -1,4 +1,4 @@
-use Rattle.std.proofs.Common.{sym, arith}
+use Rattle.std.proofs.Common.{sym}
 use Rattle.spell.proofs.Holding.{held_more, held_fails, held_all}
 use Rattle.spell.proofs.held.held_words.Goals as goal
 

@@ -1,4 +1,4 @@
-use Rattle.std.proofs.Common.{length, ap, arith, length-append}
+use Rattle.std.proofs.Common.{length, ap, arith}
 use Rattle.std.proofs.lemmas.List.{length_push}
 use Rattle.spell.proofs.Laying.{lays_as, lays_then}
 use Rattle.spell.proofs.Texts.{one_digit, more_digits_lem, digits_20}

@@ -1,4 +1,4 @@
-use Rattle.std.proofs.Common.{◌≡◌, ◌<◌, length, get_or, pos, sym, refl, ap, ◌∙◌, arith, length-set, w64, to_z, of_z}
+use Rattle.std.proofs.Common.{◌≡◌, ◌<◌, length, get_or, pos, refl, ap, ◌∙◌, arith, length-set, w64, to_z, of_z}
 use Rattle.share.proofs.Fairness.{fair}
 use Rattle.share.proofs.Splits.{done_more, rest_more, shares_all, turn, with_next, zeros}
 use Rattle.share.proofs.weights.Weights.split.Goals as goal
