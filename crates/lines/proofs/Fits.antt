@@ -1,10 +1,9 @@
 -- Where the arguments do not fit the sorts.
-use Rattle.std.proofs.Common.{◌≡◌, ℕ, suc, ◌+◌, ◌-◌, ◌<◌, ◌≤◌, min, Bool, true, false, List, [], ◌∷◌, map, length, get_or, take, drop, sym, refl, ap, ◌∙◌, subst, add-one, arith}
-use lib.ListN.{length-map}
+use Rattle.std.proofs.Common.{◌≡◌, ℕ, suc, ◌+◌, ◌-◌, ◌<◌, true, List, [], ◌∷◌, map, length, get_or, take, drop, sym, refl, ap, ◌∙◌, subst, add-one, arith}
 use Rattle.std.specs.List.{AllByRecursion as All}
 use Rattle.std.proofs.lemmas.List.{take_rest}
 use Rattle.grammar.specs.Calls.{Misfit}
-use Rattle.tokens.specs.Tokens.{arg_of, SoundPart}
+use Rattle.tokens.specs.Tokens.{SoundPart}
 use Rattle.lines.specs.Arguments.{part_sort, is_of}
 use Rattle.tokens.specs.declared.token.Part.{Part}
 use Rattle.tokens.specs.declared.token.Part.TheVariants.{Word, Number, List as Listed}

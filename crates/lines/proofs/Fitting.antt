@@ -1,6 +1,5 @@
 -- Whether the arguments of a form fit its head.
-use Rattle.std.proofs.Common.{◌≡◌, ℕ, zero, suc, ◌-◌, ◌<◌, ◌≤◌, min, Bool, true, List, [], ◌∷◌, map, length, take, sym, refl, ap, ◌∙◌, subst, arith, length-take}
-use lib.ListN.{length-map}
+use Rattle.std.proofs.Common.{◌≡◌, ℕ, zero, suc, ◌-◌, ◌≤◌, min, Bool, true, List, [], ◌∷◌, map, length, take, sym, refl, ap, ◌∙◌, subst, arith, length-take}
 use Rattle.std.specs.List.{AllByRecursion as All}
 use Rattle.std.proofs.lemmas.List.{take_all, take-take, take-map}
 use Rattle.grammar.specs.Calls.{Misfit, sorts, name}
@@ -16,7 +15,7 @@ use Rattle.lines.specs.Arguments.{part_sort}
 use Rattle.lines.specs.Wants.{wants}
 use Rattle.tokens.specs.declared.token.Part.{Part}
 use Rattle.tokens.specs.declared.token.Token.{Token}
-use Rattle.lines.proofs.Taking.{few_sorts, how_many}
+use Rattle.lines.proofs.Taking.{few_sorts}
 
 -- the first five sorts tell as much as all
 cut_misfit : (have want : List Sort) (p : ℕ) → length want ≤ 4 → Misfit (take 5 have) want p → Misfit have want p

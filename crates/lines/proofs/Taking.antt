@@ -1,12 +1,12 @@
 -- What is taken from the arguments of a form that fits its head.
-use Rattle.std.proofs.Common.{◌≡◌, ℕ, zero, suc, ◌+◌, ◌-◌, ◌<◌, ◌≤◌, min, Bool, true, false, List, [], ◌∷◌, ◌++◌, map, length, get_or, take, drop, Ok, Err, decimal, Result, sym, refl, ap, ◌∙◌, subst, add-zero, arith, MatchResult}
+use Rattle.std.proofs.Common.{◌≡◌, ℕ, suc, ◌+◌, ◌<◌, ◌≤◌, min, Bool, true, false, List, [], ◌∷◌, map, length, get_or, take, drop, Ok, Err, decimal, Result, sym, refl, ap, ◌∙◌, subst, add-zero, arith, MatchResult}
 use lib.ListN.{length-map}
 use Rattle.std.specs.List.{AllByRecursion as All}
 use Rattle.std.proofs.lemmas.List.{take_all, take-map, get_or-take, get_or-map}
 use Rattle.std.proofs.lemmas.Bool.{both_ways}
-use Rattle.grammar.specs.Calls.{Value, one, many, Asked, opens, argument, form, Held, Small, read_on, pieces, sorts, name}
+use Rattle.grammar.specs.Calls.{Value, one, many, Asked, opens, argument, Held, Small, read_on, pieces, sorts, name}
 use Rattle.grammar.specs.Grammar.{Numeral, Numbers, spaced, Arg, number, list, SoundArg, Form, spelled}
-use Rattle.grammar.specs.Reads.{arg_sort, openings, has_list, Is, Heads, Accepted, Refused, no_memory, ReadsOpening}
+use Rattle.grammar.specs.Reads.{arg_sort, openings, has_list, Accepted, Refused, no_memory, ReadsOpening}
 use Rattle.grammar.specs.declared.heads.Head.{Head}
 use Rattle.grammar.specs.declared.heads.Head.TheVariants.{File, Declare, Issue, Revise, Close, Read, Settle, Correct, Pay, Draw, Open}
 use Rattle.grammar.specs.declared.heads.Sort.{Sort}

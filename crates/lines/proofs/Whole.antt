@@ -1,9 +1,8 @@
 -- What reading a line xs a form answers.
-use Rattle.std.proofs.Common.{◌≡◌, ℕ, ◌+◌, ◌-◌, ◌<◌, ◌≤◌, min, Bool, List, [], ◌∷◌, ◌++◌, map, length, take, set, Some, None, Ok, Err, Option, sym, refl, ap, ◌∙◌, subst, arith, length-append}
+use Rattle.std.proofs.Common.{◌≡◌, ℕ, ◌+◌, ◌-◌, ◌<◌, ◌≤◌, min, Bool, List, [], ◌∷◌, ◌++◌, map, length, take, set, Some, None, Ok, Err, Option, sym, refl, ap, ◌∙◌, subst, arith}
 use Rattle.std.proofs.lemmas.List.{length_push, map_push, take_all, take_more_set, take-append-le}
-use Rattle.grammar.specs.Grammar as grammar
-use Rattle.grammar.specs.Grammar.{Arg, Form, Sound, spelled}
-use Rattle.grammar.specs.Machine.{start, closed, with_arg, Outcome, outcome, whole, stuck}
+use Rattle.grammar.specs.Grammar.{Arg, Form}
+use Rattle.grammar.specs.Machine.{start, closed, Outcome, outcome, whole, stuck}
 use Rattle.grammar.specs.Reads.{Is, Refused, no_form}
 use Rattle.grammar.specs.declared.heads.Head.{Head}
 use Rattle.grammar.proofs.Reading.{reads_form, not_form_lem, complete}
@@ -15,7 +14,6 @@ use Rattle.tokens.specs.declared.token.Part.{Part}
 use Rattle.tokens.specs.declared.token.Part.TheVariants.{Word, Number, List as Listed}
 use Rattle.tokens.specs.declared.token.Token.{Token}
 use Rattle.units.specs.declared.fault.Fault.{Fault}
-use Rattle.units.specs.declared.fault.Fault.TheVariants.{NotForm}
 
 -- the form so far, and what is left of the line
 abbrev pub Reached : (line w : List ℕ) → List Arg → (rest : List ℕ) → Type 0

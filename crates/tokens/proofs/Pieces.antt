@@ -1,43 +1,21 @@
 -- What the readers of the parts of a line answer.
-use Rattle.std.proofs.Common.{◌≡◌, ℕ, zero, suc, ◌+◌, ◌-◌, ◌<◌, ◌≤◌, Bool, true, false, cond, ◌&&◌, eqb, ltb, leb, ◌⊎◌, List, [], ◌∷◌, ◌++◌, length, get_or, take, drop, Some, None, Option, sym, refl, ap, ◌∙◌, subst, inl, inr, ⊎_elim, append_assoc, append-nil, add-zero, add-one, one-add, arith, length-append, length-drop, take-append-drop, length-take-le, get_or-drop, rules}
+use Rattle.std.proofs.Common.{◌≡◌, ℕ, suc, ◌+◌, ◌-◌, ◌<◌, ◌≤◌, true, false, ◌&&◌, eqb, ltb, List, [], ◌∷◌, ◌++◌, length, get_or, take, drop, Some, None, Option, sym, refl, ap, ◌∙◌, subst, ⊎_elim, append_assoc, add-zero, one-add, arith, length-append, take-append-drop, length-take-le, get_or-drop}
 use lib.Seq.{take-append-add}
 use Rattle.std.specs.Int.{is_in_range}
-use Rattle.std.specs.List.{AllByRecursion as All}
 use Rattle.std.proofs.lemmas.List.{take_rest, take_at, drop_more, get_or_at, get_or-append-add, length_push}
-use Rattle.std.proofs.lemmas.Bool.{cond_both, cond-true, cond-false, and_from, and_left, and_right, and_parts, eqb-true, ne_eqb, eq-eqb, lt-ltb, le-ltb, le-leb, lt-leb, cases_lt}
-use Rattle.std.proofs.lemmas.Bool.Decides.{nat_tests}
-use Rattle.grammar.specs.Grammar.{all_within, Word, Numeral, spaced, Numbers, Arg, number, list, spelled_arg, SoundArg, Form}
-use Rattle.grammar.specs.Machine.{with_arg, Spot, top, inside, State, start, word, need, digits, closed, done, grows, step, opens, numbered, Outcome, whole, stuck, outcome}
+use Rattle.std.proofs.lemmas.Bool.{cond_both, cond-true, cond-false, and_from, and_left, and_right, eqb-true, ne_eqb, eq-eqb, lt-ltb, le-ltb, le-leb, cases_lt}
+use Rattle.grammar.specs.Grammar.{spaced, Numbers, Arg, number, list, spelled_arg, SoundArg, Form}
+use Rattle.grammar.specs.Machine.{with_arg, top, inside, State, start, word, need, digits, closed, done, grows, step, stuck, outcome}
 use Rattle.tokens.specs.Ends.{Ends}
-use Rattle.tokens.specs.Pieces.{Run, most_after, Counted, Shut, NoList, Argued, NoArgument, Headed, NoHead, More}
-use Rattle.tokens.specs.Tokens.{arg_of, bytes_of, Placed}
+use Rattle.tokens.specs.Pieces.{Run, most_after, Counted, Shut, NoList, Argued, Headed, More}
+use Rattle.tokens.specs.Tokens.{arg_of, bytes_of}
 use Rattle.tokens.specs.declared.token.Part.{Part}
 use Rattle.tokens.specs.declared.token.Part.TheVariants.{Word as Lettered, Number as Figures, List as Listed}
-use Rattle.tokens.specs.declared.token.Token.{Token}
 use Rattle.grammar.proofs.Reading.{goes, through_letters, through_number, through_arg}
 
 -- `tail` in `[b, tail @ ..]`
 pub tail_is : (b : ℕ) (bs : List ℕ) → take (length (b ∷ bs) - 1) (drop 1 (b ∷ bs)) ≡ bs
 tail_is b bs = take_rest (b ∷ bs) 1
-
-pub tail_length : (bs : List ℕ) → length (take (length bs - 1) (drop 1 bs)) ≡ length bs - 1
-tail_length bs = ap length (take_rest bs 1) ∙ length-drop 1 bs
-
-pub run_more : (lo hi most : ℕ) (bs : List ℕ) (n : ℕ) → 0 < lo → 0 < most → lo ≤ get_or bs 0 0 → get_or bs 0 0 ≤ hi → Run lo hi (most - 1) (take (length bs - 1) (drop 1 bs)) n → Run lo hi most bs (1 + n)
-run_more lo hi most [] n some room low high r = absurd (omega arith)
-run_more lo hi most (b ∷ bs) n some room low high r =
-    let s : Run lo hi (most - 1) bs n = subst (λ l. Run lo hi (most - 1) l n) (tail_is b bs) r in
-    rw one-add (record {
-      in_bytes = omega (arith, s.in_bytes);
-      few = omega (arith, s.few);
-      all = and_from _ _ (and_from _ _ (le-leb lo b low) (le-leb b hi high)) s.all;
-      stops = λ h. s.stops (omega arith);
-    })
-
--- of no bytes there is no run
-pub run_none : (lo hi most : ℕ) (bs : List ℕ) → 0 < lo → (0 < length bs → ⊥) → Run lo hi most bs 0
-run_none lo hi most [] low none = record { in_bytes = omega arith; few = omega arith; all = refl; stops = λ _. and_left _ _ (lt-leb lo 0 low) }
-run_none lo hi most (b ∷ bs) low none = absurd (none (omega arith))
 
 -- a lone zero, or a number that begins with 1 to 9
 
@@ -83,15 +61,6 @@ counted (b ∷ bs) front back n some low high r p q =
 -- a byte that leads nowhere
 pub dies : (s : State) (b : ℕ) (bs : List ℕ) → step s b ≡ None → outcome s (b ∷ bs) ≡ stuck (length (b ∷ bs))
 dies s b bs e = ap (λ o. elim o [ None ↦ stuck (suc (length bs)) | Some t ↦ outcome t bs ]) e
-
-pub no_number : (f : Form) (ns : List (List ℕ)) (bs : List ℕ) → is_in_range 48 57 (get_or bs 0 0) ≡ false → outcome (need (inside f ns)) bs ≡ stuck (length bs)
-no_number f ns [] h = refl
-no_number f ns (b ∷ bs) h = dies (need (inside f ns)) b bs (cond-false _ _ _ h)
-
-pub no_digit : (bs : List ℕ) → (0 < length bs → 48 ≤ get_or bs 0 0 → 57 < get_or bs 0 0) → is_in_range 48 57 (get_or bs 0 0) ≡ false
-no_digit [] h = refl
-no_digit (b ∷ bs) h =
-    ⊎_elim (λ k. and_left _ _ (lt-leb 48 b k)) (λ k. and_right _ _ (lt-leb b 57 (h (omega arith) k))) (cases_lt b 48)
 
 -- after a number in a list
 
@@ -173,20 +142,6 @@ no_list_here most bs ds after some k apart full =
 at_open : (b : ℕ) (bs : List ℕ) → b ≡ 40 → outcome start (b ∷ bs) ≡ outcome (word []) bs
 at_open b bs e = goes start (word []) b bs (cond-true (eqb b 40) (Some (word [])) None (eq-eqb b 40 e))
 
-pub no_open : (bs : List ℕ) → (0 < length bs → get_or bs 0 0 ≡ 40 → ⊥) → NoHead bs (length bs)
-no_open [] h = (omega arith, refl)
-no_open (b ∷ bs) h = (omega arith, dies start b bs (cond-false _ _ _ (ne_eqb b 40 (h (omega arith)))))
-
-pub no_letter : (bs : List ℕ) → 0 < length bs → get_or bs 0 0 ≡ 40 → Run 97 122 8 (take (length bs - 1) (drop 1 bs)) 0 → NoHead bs (length (take (length bs - 1) (drop 1 bs)))
-no_letter [] some e r = absurd (omega arith)
-no_letter (b ∷ bs) some e r =
-    let s : Run 97 122 8 bs 0 = subst (λ l. Run 97 122 8 l 0) (tail_is b bs) r in
-    subst (λ l. NoHead (b ∷ bs) (length l)) (sym (tail_is b bs)) (omega arith, at_open b bs e ∙ blocked bs (s.stops (omega arith)))
-  where
-    blocked : (bs : List ℕ) → is_in_range 97 122 (get_or bs 0 0) ≡ false → outcome (word []) bs ≡ stuck (length bs)
-    blocked [] h = refl
-    blocked (x ∷ bs) h = dies (word []) x bs (cond-false _ _ _ (and_left _ _ h))
-
 alike : (s t : State) (b : ℕ) (bs : List ℕ) → step s b ≡ step t b → outcome s (b ∷ bs) ≡ outcome t (b ∷ bs)
 alike s t b bs e = ap (λ (o : Option State). elim o [ None ↦ stuck (suc (length bs)) | Some t ↦ outcome t bs ]) e
 
@@ -239,16 +194,6 @@ argued_number bs rest p ds e k =
     let there : A (arg_of p) = subst A (sym e) here in
     record { sound = there.0; parts = there.1; leads = there.2 }
 
-pub no_argument : (bs : List ℕ) → is_in_range 48 57 (get_or bs 0 0) ≡ false → (0 < length bs → get_or bs 0 0 ≡ 40 → ⊥) → NoArgument bs (length bs)
-no_argument [] h k = (omega arith, λ f. refl)
-no_argument (b ∷ bs) h k = (omega arith, λ f. dies (need (top f)) b bs (cond-false _ _ _ h ∙ cond-false _ _ _ (ne_eqb b 40 (k (omega arith)))))
-
-pub no_list : (bs : List ℕ) (left : ℕ) → 0 < length bs → get_or bs 0 0 ≡ 40 → NoList 96 (take (length bs - 1) (drop 1 bs)) left → NoArgument bs left
-no_list [] left some e s = absurd (omega arith)
-no_list (b ∷ bs) left some e s =
-    let t : NoList 96 bs left = subst (λ l. NoList 96 l left) (tail_is b bs) s in
-    subst (λ c. NoArgument (c ∷ bs) left) (sym e) (omega (arith, t.0), λ f. t.1 f [] refl)
-
 pub argued_list : (bs rest : List ℕ) (p : Part) (n : ℕ) → 0 < length bs → get_or bs 0 0 ≡ 40 → Shut 96 (take (length bs - 1) (drop 1 bs)) n → arg_of p ≡ list (take n (take (length bs - 1) (drop 1 bs))) → rest ≡ drop (n + 1) (take (length bs - 1) (drop 1 bs)) → Argued bs p rest
 argued_list [] rest p n some e s r q = absurd (omega arith)
 argued_list (b ∷ bs) rest p n some e s r q =
@@ -275,16 +220,6 @@ at_space f bs = refl
 
 at_close : (f : Form) (b : ℕ) (bs : List ℕ) → b ≡ 41 → outcome (closed f) (b ∷ bs) ≡ outcome (done f) bs
 at_close f b bs e = subst (λ c. outcome (closed f) (c ∷ bs) ≡ outcome (done f) bs) (sym e) refl
-
-pub next_end : (bs : List ℕ) → length bs ≡ 1 → get_or bs 0 0 ≡ 41 → (f : Form) → outcome (closed f) bs ≡ whole f
-next_end [] one e f = absurd (omega arith)
-next_end (b ∷ []) one e f = at_close f b [] e
-next_end (b ∷ x ∷ bs) one e f = absurd (omega arith)
-
-pub next_surplus : (bs : List ℕ) → 1 < length bs → get_or bs 0 0 ≡ 41 → (f : Form) → outcome (closed f) bs ≡ stuck (length (take (length bs - 1) (drop 1 bs)))
-next_surplus [] more e f = absurd (omega arith)
-next_surplus (b ∷ []) more e f = absurd (omega arith)
-next_surplus (b ∷ x ∷ bs) more e f = at_close f b (x ∷ bs) e ∙ ap (λ l. stuck (length l)) (sym (tail_is b (x ∷ bs)))
 
 -- what is left after some of what was left
 pub ends_of : (front rest line : List ℕ) → front ++ rest ≡ line → (length rest ≤ length line) × Ends line rest
@@ -314,11 +249,3 @@ next_argument line all bs rest p before e u =
       there.0,
       there.1,
     )
-
-pub next_no_argument : (all bs : List ℕ) (left : ℕ) → all ≡ 32 ∷ bs → NoArgument bs left → (left ≤ length all) × ((f : Form) → outcome (closed f) all ≡ stuck left)
-next_no_argument all bs left e u = (omega (arith, u.0, ap length e), λ f. ap (outcome (closed f)) e ∙ at_space f bs ∙ u.1 f)
-
-pub next_other : (bs : List ℕ) → ((tail : List ℕ) → bs ≡ 32 ∷ tail → ⊥) → (0 < length bs → get_or bs 0 0 ≡ 41 → ⊥) → (f : Form) → outcome (closed f) bs ≡ stuck (length bs)
-next_other [] h k f = refl
-next_other (b ∷ bs) h k f =
-    dies (closed f) b bs (cond-false _ _ _ (ne_eqb b 32 (λ e. h bs (ap (λ c. c ∷ bs) e))) ∙ cond-false _ _ _ (ne_eqb b 41 (k (omega arith))))

@@ -1,8 +1,8 @@
 -- What the readers of a word, a number, a list and an argument say of the bytes before them.
 use Rattle.std.specs.Prelude.{◌≡◌, ℕ, ◌+◌, ◌-◌, ◌<◌, ◌≤◌, true, false, cond, ◌&&◌, List, [], ◌∷◌, ◌++◌, length, take, Some, None, Ok, Err, Option, Result, ◌==◌, slice_index, slice_index_or}
 use Rattle.std.specs.Int.{is_in_range}
-use Rattle.grammar.specs.Grammar.{all_within, Word, Numeral, Numbers, Arg, spelled_arg, SoundArg, Form}
-use Rattle.grammar.specs.Machine.{Spot, top, inside, State, start, need, closed, with_arg, grows, Outcome, whole, stuck, outcome}
+use Rattle.grammar.specs.Grammar.{all_within, Word, Numeral, Numbers, spelled_arg, SoundArg, Form}
+use Rattle.grammar.specs.Machine.{top, inside, start, need, closed, with_arg, grows, whole, stuck, outcome}
 use Rattle.units.specs.declared.fault.Fault.{Fault}
 use Rattle.units.specs.declared.fault.Fault.TheVariants.{NotForm}
 use Rattle.tokens.specs.Tokens.{arg_of, letters_of, SoundPart, Placed}

@@ -1,4 +1,4 @@
-use Rattle.std.proofs.Common.{◌≡◌, ℕ, min, List, map, length, take}
+use Rattle.std.proofs.Common.{◌≡◌, length}
 use Rattle.std.specs.List.{AllByRecursion as All}
 use Rattle.lines.specs.Arguments.{Readable}
 use Rattle.lines.proofs.Whole.{Gathered}
