@@ -1,5 +1,5 @@
 -- The lines of a request, one line more.
-use Rattle.std.proofs.Common.{◌≡◌, ℕ, ◌+◌, List, [], ◌∷◌, ◌++◌, length, Some, None, Ok, Err, Option, Result, sym, refl, ap, ◌∙◌, subst, arith}
+use Rattle.std.proofs.Common.{◌≡◌, ℕ, ◌+◌, List, [], ◌∷◌, ◌++◌, length, Some, None, Ok, Option, Result, sym, refl, ap, ◌∙◌, subst, arith}
 use Rattle.quoting.specs.Lines.{Begins, after, blamed, read, refusal}
 use Rattle.quoting.specs.Steps.{Given}
 use Rattle.quoting.specs.Words.{Said, Says}

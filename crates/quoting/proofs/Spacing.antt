@@ -1,5 +1,5 @@
 -- The words of a line, one word more.
-use Rattle.std.proofs.Common.{◌≡◌, ℕ, ◌+◌, ◌<◌, ◌≤◌, List, [], ◌∷◌, ◌++◌, map, length, get_or, take, set, sym, refl, ap, ◌∙◌, subst, add-one, arith, take-suc-set, Bor}
+use Rattle.std.proofs.Common.{◌≡◌, ℕ, ◌+◌, ◌<◌, ◌≤◌, List, [], ◌∷◌, ◌++◌, map, length, get_or, take, set, sym, refl, ap, ◌∙◌, add-one, arith, take-suc-set, Bor}
 use Rattle.quoting.specs.Words.{Spaced, words_of}
 use Rattle.quoting.specs.declared.words.Words.{Words}
 use Rattle.std.proofs.lemmas.List.{get_or-map, get_or_past, get_or-take, length-map, length-take-le, map_push}

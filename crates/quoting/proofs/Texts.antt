@@ -1,18 +1,14 @@
 -- What the words of a line mean, by what the code has tested.
-use Rattle.std.proofs.Common.{◌≡◌, ℕ, suc, ◌+◌, ◌-◌, ◌*◌, ◌<◌, min, Bool, true, false, cond, eqb, List, [], length, get_or, drop, Some, None, Ok, Err, codes, Decides, Option, sym, ap, ◌∙◌, add-one, arith, drop-cons, rules}
+use Rattle.std.proofs.Common.{◌≡◌, ℕ, suc, ◌+◌, ◌-◌, ◌*◌, ◌<◌, min, Bool, true, false, cond, eqb, List, [], length, get_or, drop, None, Err, codes, Option, sym, ap, ◌∙◌, add-one, arith, drop-cons}
 use Rattle.quoting.specs.Words.{digits_from, entry_in, key_in, number_of, tariff_in}
 use Rattle.quoting.specs.declared.complaint.Cause.TheVariants.{UnknownLine, UnknownTariff, UnknownKey, WordCount}
-use Rattle.std.proofs.lemmas.Slice.Eq.{bytes_eq-Decides}
 use Rattle.std.proofs.lemmas.Bool.Decides.{nat_tests}
 use Rattle.std.specs.Char.{is_ascii_digit}
 use Rattle.std.specs.Str.{bytes_eq}
 
-tested : (xs ys : List ℕ) (r : Bool) → Decides r (xs ≡ ys) → r ≡ bytes_eq xs ys
-tested xs ys r h = search (rules, bytes_eq-Decides)
-
 -- a word that is the text w, and is found to differ from ys
-pub differs : (w xs ys : List ℕ) (r : Bool) → xs ≡ w → Decides r (xs ≡ ys) → r ≡ false → bytes_eq w ys ≡ false
-differs w xs ys r same h e = ap (λ v. bytes_eq v ys) (sym same) ∙ (sym (tested xs ys r h) ∙ e)
+pub differs : (w xs ys : List ℕ) (r : Bool) → xs ≡ w → r ≡ bytes_eq xs ys → r ≡ false → bytes_eq w ys ≡ false
+differs w xs ys r same h e = ap (λ v. bytes_eq v ys) (sym same) ∙ (sym h ∙ e)
 
 module _ (ws : List (List ℕ)) where
   pub no_key : length ws ≡ 2 → bytes_eq (get_or ws 1 []) (codes "units") ≡ false → bytes_eq (get_or ws 1 []) (codes "capacity") ≡ false

@@ -5,4 +5,4 @@ use Rattle.quoting.specs.Words.{words_of}
 pub returns-else-eq-2 : goal.returns-else-eq-2
 returns-else-eq-2 c =
     let is = c.at-name.ensures in
-    no_key (words_of c.args.words.now) c.in-ok-expect.ensures (differs _ _ _ _ is c.eq.ensures c.if-eq.false) (differs _ _ _ _ is c.eq-else-eq.ensures c.if-eq-2.false)
+    no_key (words_of c.args.words.now) c.in_ok-expect.ensures (differs _ _ _ _ is c.eq.ensures c.if-eq.false) (differs _ _ _ _ is c.eq-else-eq.ensures c.if-eq-2.false)

@@ -6,7 +6,7 @@ use Rattle.share.specs.Shares.{Fair, shares}
 use Rattle.std.proofs.lemmas.List.{length-map}
 use Rattle.std.proofs.lemmas.Int.{to_z-of_z}
 use Rattle.tariff.specs.Charges.{deviation_of}
-use Rattle.std.proofs.Common.{◌≡◌, length, get_or, ℤ, pos, sym, ap, ◌∙◌, subst, w64, SFits, to_z, of_z, rules}
+use Rattle.std.proofs.Common.{◌≡◌, length, get_or, pos, sym, ap, ◌∙◌, subst, w64, SFits, to_z, of_z, rules}
 
 pub returns : goal.returns
 returns g c =
@@ -26,8 +26,8 @@ returns g c =
       deviation = deviation;
       charge = charge;
       count = ap length c.each.ensures ∙ sym (length-map gs (λ x. x.load));
-      money = λ k. c.split-by.ensures.shares k ∙ ap (λ m. get_or (shares m ws) k (pos 0)) charge;
-      energy = λ k. c.split-by-2.ensures.shares k ∙ ap (λ m. get_or (shares m ws) k (pos 0)) deviation;
-      fair_money = subst (λ m. Fair m ws) charge c.split-by.ensures.fair;
-      fair_energy = subst (λ m. Fair m ws) deviation c.split-by-2.ensures.fair;
+      money = λ k. c.split_by.ensures.shares k ∙ ap (λ m. get_or (shares m ws) k (pos 0)) charge;
+      energy = λ k. c.split_by-2.ensures.shares k ∙ ap (λ m. get_or (shares m ws) k (pos 0)) deviation;
+      fair_money = subst (λ m. Fair m ws) charge c.split_by.ensures.fair;
+      fair_energy = subst (λ m. Fair m ws) deviation c.split_by-2.ensures.fair;
     }

@@ -1,4 +1,4 @@
-use Rattle.std.proofs.Common.{◌≡◌, ◌≤◌, length, is_some, Some, sym, ap, ◌∙◌, arith}
+use Rattle.std.proofs.Common.{◌≤◌, length, is_some, Some, sym, ap, ◌∙◌, arith}
 use Rattle.quoting.proofs.Walks.{ended, loads_count}
 use Rattle.quoting.proofs.draft.Draft.finish.Goals as goal
 use Rattle.quoting.specs.Drafts.{given_in}

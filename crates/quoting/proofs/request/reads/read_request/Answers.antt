@@ -26,7 +26,7 @@ returns-in-Err c =
 
 pub loop-written-preserved : goal.loop-written-preserved
 loop-written-preserved c =
-    let took = c.in-default-read-line.ensures in
+    let took = c.in_default-read_line.ensures in
     let inv = c.loop-written.invariant in
     let step = c.in-Some.ensures.steps.0 in
     let given = given_in c.loop-written.draft in

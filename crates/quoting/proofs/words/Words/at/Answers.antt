@@ -1,6 +1,5 @@
 use Rattle.quoting.proofs.Spacing.{word_at, word_past}
 use Rattle.quoting.proofs.words.Words.at.Goals as goal
-use Rattle.std.proofs.Common.{arith}
 
 pub returns-then-place-self : goal.returns-then-place-self
 returns-then-place-self c = word_at c.args.self.now c.args.place _ c.if-place-self.true
