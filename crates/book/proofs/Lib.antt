@@ -7,5 +7,6 @@ mod OpeningStations
 mod Owners
 mod Places
 mod Runs
+mod Shares
 mod Values
 mod Writes

@@ -7,7 +7,9 @@ use Rattle.book.specs.declared.book.Book.{Book}
 use Rattle.book.specs.declared.pages.Pages.{Pages}
 use Rattle.book.specs.declared.station.Station.{Station}
 use Rattle.posting.specs.declared.account.Account.{Account}
+use Rattle.share.specs.declared.key.Key as key
 use Rattle.std.specs.List.{flat_map}
+use Rattle.tariff.specs.declared.tariff.Tariff as tariff
 use Rattle.units.specs.declared.call.Opening.{Opening}
 use Rattle.units.specs.declared.fault.Fault.{Fault}
 use Rattle.units.specs.declared.fault.Fault.TheVariants.{BadStation, InstalledCount, InstalledRange, NoMemory, StationCount}
@@ -117,7 +119,7 @@ pub record Begun (stations : ℕ) (installed : List ℕ) (before after : Pages) 
 
 -- what an opening leaves
 
-pub record Opened {T K : Type 0} (tariff : T) (key : K) (o : Opening) (before after : Pages) (b : Book T K) : Type 0 where
+pub record Opened {T K : Type 0} {rules : tariff.Ghosts T} {weights : key.Ghosts K} (tariff : T) (key : K) (o : Opening) (before after : Pages) (b : Book T K rules weights) : Type 0 where
   pub cause : opening_fault o before ≡ None
   pub tariff_is : b.tariff ≡ tariff
   pub key_is : b.key ≡ key
@@ -131,7 +133,7 @@ pub record NotOpened (o : Opening) (before after : Pages) (f : Fault) : Type 0 w
   pub kept : after ≡ before
   pub cause : (opening_fault o before ≡ Some f) ⊎ ((opening_fault o before ≡ None) × (f ≡ NoMemory))
 
-abbrev pub Opens : {T K : Type 0} → T → K → Opening → Pages → Pages → Result (Book T K) Fault → Type 0
+abbrev pub Opens : {T K : Type 0} {rules : tariff.Ghosts T} {weights : key.Ghosts K} → T → K → Opening → Pages → Pages → Result (Book T K rules weights) Fault → Type 0
 Opens tariff key o before after r = MatchResult r (Opened tariff key o before after) (NotOpened o before after)
 
 -- what the checks find of an opening

@@ -10,6 +10,8 @@ use Rattle.book.specs.declared.station.Station.{Station}
 use Rattle.posting.specs.Sheets.{Sheet, installed_of}
 use Rattle.posting.specs.declared.account.Account.{Account}
 use Rattle.posting.specs.declared.members.Members.{Members}
+use Rattle.share.specs.declared.key.Key as key
+use Rattle.tariff.specs.declared.tariff.Tariff as tariff
 use Rattle.units.specs.declared.fault.Fault.{Fault}
 use Rattle.units.specs.declared.fault.Fault.TheVariants.{NoSuchNumber, ShortPage, WrongPhase}
 use Rattle.units.specs.declared.station.Kind.TheVariants.{Wind}
@@ -24,7 +26,7 @@ pub record State : Type 0 where
   pub readings : List (Option ℕ)
   pub accounts : List Account
 
-abbrev pub state : {T K : Type 0} → Book T K → Pages → State
+abbrev pub state : {T K : Type 0} {rules : tariff.Ghosts T} {weights : key.Ghosts K} → Book T K rules weights → Pages → State
 state b p = record {
   stations = vec_items b.stations;
   cash = b.cash;

@@ -7,5 +7,5 @@ use Rattle.std.proofs.Common.{subst}
 
 pub loop-preserved : goal.loop-preserved
 loop-preserved c =
-    let left = subst (λ (s : Sheet). Leaves c.args.settle s (state c.in-Ok.book c.one-book.new.pages)) c.loop.invariant.0 c.in-Ok.ensures in
+    let left = subst (λ (s : Sheet). Leaves c.args.settle s (state c.in-Ok.book c.one_book.new.pages)) c.loop.invariant.0 c.in-Ok.ensures in
     (left.full.sheet, left.full.accounts, left)

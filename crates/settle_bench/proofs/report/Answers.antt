@@ -12,18 +12,18 @@ use Rattle.std.proofs.lemmas.Int.{to_z-of_z}
 
 pub loop-t-preserved : goal.loop-t-preserved
 loop-t-preserved c =
-    let z = c.in-ok-dues.field-0 in
+    let z = c.in_ok-dues.field-0 in
     let fits : SFits w64 z = search rules in
-    written (λ t. due_of (get_or (vec_items c.args.book.now.stations) t nobody)) c.loop-t.dues c.loop-t.t _ (pos 0) (omega arith) c.loop-t.invariant (to_z-of_z w64 z fits ∙ c.in-ok-dues.ensures.1)
+    written (λ t. due_of (get_or (vec_items c.args.book.now.stations) t nobody)) c.loop-t.dues c.loop-t.t _ (pos 0) (omega arith) c.loop-t.invariant (to_z-of_z w64 z fits ∙ c.in_ok-dues.ensures.1)
 
 pub loop-g-preserved : goal.loop-g-preserved
 loop-g-preserved c =
-    let a = c.in-ok-account.account in
+    let a = c.in_ok-account.account in
     let fits-money : SFits w64 a.money = search rules in
     let fits-energy : SFits w64 a.energy = search rules in
     let money = to_z-of_z w64 a.money fits-money in
     let energy = to_z-of_z w64 a.energy fits-energy in
-    let is = c.in-ok-account.ensures.1 in
+    let is = c.in_ok-account.ensures.1 in
     let accounts = vec_items c.args.pages.now.accounts in
     let share : ℕ → Shares = λ g. record { money = (get_or accounts g no_account).money; energy = (get_or accounts g no_account).energy } in
     written share c.loop-g.shares c.loop-g.g _ nothing (omega arith) c.loop-g.invariant (same_shares (money ∙ ap (λ (x : Amounts). x.money) is) (energy ∙ ap (λ (x : Amounts). x.energy) is))

@@ -22,7 +22,7 @@ loop-t-preserved c =
       c.settle.ensures.tariff ∙ c.loop-t.invariant.0,
       settle_more (sheet_in c.args.pages.now) z after r t c.loop-t-test.true c.loop-t.invariant.1
           (subst (λ (bands : Banded). Does (settling (λ q. pos (banded (edges_of bands) q)) by_units t z) r after) c.loop-t.invariant.0 c.settle.ensures.does)
-          c.in-ok-settle.was,
+          c.in_ok-settle.was,
     )
 
 pub returns : goal.returns

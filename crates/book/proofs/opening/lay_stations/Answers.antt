@@ -4,8 +4,8 @@ use Rattle.book.proofs.opening.lay_stations.Goals as goal
 use Rattle.book.specs.Opening.{opened_stations, view_of}
 use Rattle.std.proofs.lemmas.List.{append-nil, map_push}
 
-pub opened-station-requires : goal.opened-station-requires
-opened-station-requires c =
+pub opened_station-requires : goal.opened_station-requires
+opened_station-requires c =
     let kinds = c.args.kinds.now in
     let counts = c.args.counts.now in
     let t = c.loop-t.t in
@@ -23,13 +23,13 @@ loop-t-preserved c =
     let sound = sound_here kinds counts t here c.requires.same c.loop-t.invariant.0 in
     let few = (sound_count (get_or kinds t 0) (get_or counts t 0) sound.0).1 in
     let old = vec_items c.loop-t.stations in
-    let views = ap (map view_of) c.push-reserved.ensures.items ∙ map_push view_of old c.opened-station.result in
-    let laid = laid_at kinds counts t here c.requires.same c.loop-t.first (map view_of old) _ _ c.opened-station.ensures c.loop-t.invariant.1 in (
+    let views = ap (map view_of) c.push_reserved.ensures.items ∙ map_push view_of old c.opened_station.result in
+    let laid = laid_at kinds counts t here c.requires.same c.loop-t.first (map view_of old) _ _ c.opened_station.ensures c.loop-t.invariant.1 in (
       sound.1,
       ap (λ vs. vs ++ opened_stations (c.loop-t.first + get_or counts t 0) (drop (t + 1) kinds) (drop (t + 1) counts)) views ∙ laid,
       omega (arith, c.loop-t.invariant.2, few),
-      omega (arith, c.loop-t.invariant.3, c.push-reserved.ensures.len),
-      omega (arith, c.loop-t.invariant.4, c.push-reserved.ensures.capacity),
+      omega (arith, c.loop-t.invariant.3, c.push_reserved.ensures.len),
+      omega (arith, c.loop-t.invariant.4, c.push_reserved.ensures.capacity),
     )
 
 pub returns : goal.returns

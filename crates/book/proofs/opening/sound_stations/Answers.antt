@@ -3,8 +3,8 @@ use Rattle.book.proofs.OpeningChecks.{generators_at_lem, generators_end, sound_a
 use Rattle.book.proofs.opening.sound_stations.Goals as goal
 use Rattle.book.specs.Opening.{generators_in, sound_station}
 
-pub returns-then-not-is-sound : goal.returns-then-not-is-sound
-returns-then-not-is-sound c =
+pub returns-then-not-is_sound : goal.returns-then-not-is_sound
+returns-then-not-is_sound c =
     let kinds = c.args.kinds.now in
     let counts = c.args.counts.now in
     let t = c.loop-t.t in

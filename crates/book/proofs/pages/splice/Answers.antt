@@ -6,4 +6,4 @@ pub returns : goal.returns
 returns g c =
     let xs = c.args.page.now in
     let e = c.args.start + length c.args.values.now in
-    rw (c.copy-from-slice.ensures.after, Post-is c.args.start e xs (omega arith))
+    rw (c.copy_from_slice.ensures.after, Post-is c.args.start e xs (omega arith))

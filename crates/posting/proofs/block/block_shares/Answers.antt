@@ -6,17 +6,17 @@ use Rattle.share.specs.Keys.{weights}
 use Rattle.tariff.specs.Charges.{deviation_of}
 use Rattle.std.proofs.Common.{ap, ◌∙◌, arith}
 
-pub figures-of-figures-requires : goal.figures-of-figures-requires
-figures-of-figures-requires g c =
+pub figures_of-figures-requires : goal.figures_of-figures-requires
+figures_of-figures-requires g c =
     let s = sheet_of c.args.pages.now c.args.accounts.now in
-    let t = taken s c.args.station c.args.members c.args.block _ _ _ _ c.count.ensures c.in-Some.ensures.1 c.generators-at-all.ensures c.query-of.ensures in
+    let t = taken s c.args.station c.args.members c.args.block _ _ _ _ c.count.ensures c.in-Some.ensures.1 c.generators_at-all.ensures c.query_of.ensures in
     record { schedule = t.schedule; actual = t.actual }
 
 pub returns : goal.returns
 returns g c =
     let s = sheet_of c.args.pages.now c.args.accounts.now in
-    let t = taken s c.args.station c.args.members c.args.block _ _ _ _ c.count.ensures c.in-Some.ensures.1 c.generators-at-all.ensures c.query-of.ensures in
-    let f = c.figures-of-figures.ensures in
+    let t = taken s c.args.station c.args.members c.args.block _ _ _ _ c.count.ensures c.in-Some.ensures.1 c.generators_at-all.ensures c.query_of.ensures in
+    let f = c.figures_of-figures.ensures in
     let charge = f.charge ∙ ap (g.T.Tariff.charge_of c.args.tariff.now) t.query_is in
     let deviation = f.deviation ∙ ap deviation_of t.query_is in
     let alive = block_alive g.K.Key.weighs g.met.K.Key.alive s c.args.members c.args.block in

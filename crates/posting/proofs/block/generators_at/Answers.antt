@@ -10,7 +10,7 @@ loop-k-preserved c =
     let b = c.args.block in
     let s = sheet_of c.args.pages.now c.args.accounts.now in
     let ls = loads_from s b first k in
-    let read : c.generator-at.result.load ≡ load_at s (first + k) b = c.generator-at.ensures ∙ ap (λ n. load_at s (n + k) b) c.first.ensures in (
+    let read : c.generator_at.result.load ≡ load_at s (first + k) b = c.generator_at.ensures ∙ ap (λ n. load_at s (n + k) b) c.first.ensures in (
       rw length-set c.loop-k.invariant.0,
-      loads_more c.loop-k.generators ls k c.generator-at.result (omega arith) c.loop-k.invariant.1 ∙ ap (λ l. ls ++ l ∷ []) read ∙ sym (loads_push s b first k),
+      loads_more c.loop-k.generators ls k c.generator_at.result (omega arith) c.loop-k.invariant.1 ∙ ap (λ l. ls ++ l ∷ []) read ∙ sym (loads_push s b first k),
     )

@@ -18,8 +18,8 @@ loop-k-preserved c =
     let first = c.args.members.first in
     let old = c.args.accounts.now in
     let cur = c.loop-k.accounts in
-    let after = c.post-one.new.accounts in
+    let after = c.post_one.new.accounts in
     elim (cases_lt (c.first.result + k) (length cur)) [
-      | inl h ↦ turn_more first c.first.result k f old cur after c.first.ensures c.loop-k.invariant _ no_account h (simp to_z-of_z at (c.post-one.ensures.there h)) refl
-      | inr h ↦ turn_past first c.first.result k f old cur after c.first.ensures c.loop-k.invariant h (c.post-one.ensures.past h)
+      | inl h ↦ turn_more first c.first.result k f old cur after c.first.ensures c.loop-k.invariant _ no_account h (simp to_z-of_z at (c.post_one.ensures.there h)) refl
+      | inr h ↦ turn_past first c.first.result k f old cur after c.first.ensures c.loop-k.invariant h (c.post_one.ensures.past h)
     ]

@@ -10,4 +10,4 @@ at_installed (a ∷ rest) zero = refl
 at_installed (a ∷ rest) (suc g) = at_installed rest g
 
 pub returns : goal.returns
-returns c = ap (λ a. a.installed) c.account-at.ensures ∙ at_installed c.args.accounts.now c.args.generator
+returns c = ap (λ a. a.installed) c.account_at.ensures ∙ at_installed c.args.accounts.now c.args.generator

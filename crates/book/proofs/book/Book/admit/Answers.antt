@@ -3,9 +3,9 @@ use Rattle.book.proofs.book.Book.admit.Goals as goal
 use Rattle.book.specs.States.{admission}
 use Rattle.book.specs.Stations.{phase_after}
 
-pub returns-in-err-station : goal.returns-in-err-station
+pub returns-in_err-station : goal.returns-in_err-station
 unfolding admission phase_after
-returns-in-err-station g c = search rules
+returns-in_err-station g c = search rules
 
 pub returns-in-Some : goal.returns-in-Some
 unfolding admission phase_after

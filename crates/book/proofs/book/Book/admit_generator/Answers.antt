@@ -4,9 +4,9 @@ use Rattle.book.proofs.book.Book.admit_generator.Goals as goal
 use Rattle.book.specs.States.{generator_admission}
 use Rattle.book.specs.Stations.{phase_after}
 
-pub returns-in-err-t : goal.returns-in-err-t
+pub returns-in_err-t : goal.returns-in_err-t
 unfolding generator_admission phase_after
-returns-in-err-t g c = search rules
+returns-in_err-t g c = search rules
 
 pub returns-in-Some : goal.returns-in-Some
 unfolding generator_admission phase_after

@@ -4,9 +4,9 @@ use Rattle.book.proofs.book.Book.find_generator.Goals as goal
 use Rattle.book.specs.Sound.{generators_of}
 use Rattle.book.specs.States.{generator_presence}
 
-pub returns-in-err-fit : goal.returns-in-err-fit
+pub returns-in_err-fit : goal.returns-in_err-fit
 unfolding generator_presence
-returns-in-err-fit g c = search rules
+returns-in_err-fit g c = search rules
 
 pub returns-then-generator-self : goal.returns-then-generator-self
 unfolding generator_presence
@@ -18,4 +18,4 @@ returns g c =
     let b = c.args.self.now in
     let there : c.args.generator < generators_of b.stations.items = omega (arith, b.all) in
     let at = owner_at c.args.generator b.stations.items c.owner.result b.laid there c.owner.ensures in
-    (search rules, record { fit = c.in-ok-fit.ensures.1; there = there; within = at.0; low = at.1; high = at.2; is = c.owner.ensures })
+    (search rules, record { fit = c.in_ok-fit.ensures.1; there = there; within = at.0; low = at.1; high = at.2; is = c.owner.ensures })

@@ -10,7 +10,7 @@ use Rattle.units.proofs.Sets.{count_low}
 pub returns : goal.returns
 returns g c =
     let b = c.args.self.now in
-    let at = c.in-ok-station.ensures in
+    let at = c.in_ok-station.ensures in
     let old = get_or b.stations.items c.args.t nobody in
     let same : c.progress.result ≡ progress_of old = c.progress.ensures ∙ ap progress_of at.1.is in
     let filed = ap (λ (p : Progress). p.filed) same in

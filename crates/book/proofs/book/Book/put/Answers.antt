@@ -4,37 +4,22 @@ use Rattle.book.specs.Sound.{Covered, InDay, InSlots, Light}
 use Rattle.std.proofs.lemmas.Int.{ints}
 use Rattle.std.proofs.Common.{◌∙◌, arith}
 
-pub invariant-of-self : goal.invariant-of-self
-invariant-of-self g c =
+pub invariant_of-self : goal.invariant_of-self
+invariant_of-self g c =
     let b = c.args.self.now in
     let ss = b.stations.items in
     let t = c.args.t in
     let s = c.args.station in
-    let h = c.requires in (
-      b.few,
-      (
-        b.most,
-        (
-          generators_set ss t s h.placed ∙ b.all,
-          (
-            laid_set ss t s h.placed b.laid,
-            (
-              h.low,
-              (
-                omega (arith, ints, nets_set ss t s h.within, b.even, h.even),
-                (
-                  each_set Light ss t s b.light h.light,
-                  (
-                    each_set Covered ss t s b.covered h.covered,
-                    (
-                      each_set InDay ss t s b.in_day h.in_day,
-                      (each_set InSlots ss t s b.in_slots h.in_slots, tt),
-                    ),
-                  ),
-                ),
-              ),
-            ),
-          ),
-        ),
-      ),
-    )
+    let h = c.requires in
+    record {
+      few = b.few;
+      most = b.most;
+      all = generators_set ss t s h.placed ∙ b.all;
+      laid = laid_set ss t s h.placed b.laid;
+      low = h.low;
+      even = omega (arith, ints, nets_set ss t s h.within, b.even, h.even);
+      light = each_set Light ss t s b.light h.light;
+      covered = each_set Covered ss t s b.covered h.covered;
+      in_day = each_set InDay ss t s b.in_day h.in_day;
+      in_slots = each_set InSlots ss t s b.in_slots h.in_slots;
+    }

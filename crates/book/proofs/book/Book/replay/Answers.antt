@@ -20,7 +20,7 @@ loop-call-preserved g c =
           c.loop-call-test.true c.loop-call.invariant.0
           (does.answer ∙ ap (λ (y : g.row.T.Denot). (step (price y) weighs x m).answer) one ∙ ap (λ (z : Call). (step (price c.args.self.now.tariff) weighs z m).answer) c.call-item.is)
           (does.after ∙ ap (λ (y : g.row.T.Denot). (step (price y) weighs x m).after) one ∙ ap (λ (z : Call). (step (price c.args.self.now.tariff) weighs z m).after) c.call-item.is)
-          c.push-reserved.ensures.items,
+          c.push_reserved.ensures.items,
       omega arith,
       omega arith,
       c.apply-answer.ensures.tariff ∙ one,

@@ -7,5 +7,5 @@ pub returns : goal.returns
 returns c =
     let page = c.args.self.now.capacities in
     let kept : length c.fill.new.page ≡ page.len = omega arith in
-    let same = c.fill.ensures ∙ ap (spliced c.args.start (replicate c.args.count c.args.kw)) c.deref-mut.ensures.value in
+    let same = c.fill.ensures ∙ ap (spliced c.args.start (replicate c.args.count c.args.kw)) c.deref_mut.ensures.value in
     record { written = back page.len c.fill.new.page _ kept same; schedules = refl; readings = refl; accounts = refl }

@@ -10,10 +10,10 @@ pub returns-in-Some : goal.returns-in-Some
 unfolding used_slot wrong_number
 returns-in-Some c = search rules
 
-pub returns-in-default : goal.returns-in-default
+pub returns-in_default : goal.returns-in_default
 unfolding used_slot wrong_number
-returns-in-default c = search rules
+returns-in_default c = search rules
 
-pub returns-in-default·2 : goal.returns-in-default·2
+pub returns-in_default-2 : goal.returns-in_default-2
 unfolding used_slot wrong_number
-returns-in-default·2 c = search rules
+returns-in_default-2 c = search rules
