@@ -1,8 +1,8 @@
 -- A changed station may be put back where it keeps what the book needs.
-use Rattle.std.proofs.Common.{◌≡◌, ℕ, zero, suc, ◌+◌, ◌-◌, ◌*◌, ◌/◌, ◌^◌, ◌<◌, ◌≤◌, true, false, ◌&&◌, leb, List, [], ◌∷◌, length, get_or, ℤ, pos, negsuc, ◌+ℤ◌, ◌-ℤ◌, nat_abs, ◌≤ℤ◌, Some, None, sym, refl, ap, ◌∙◌, subst, ⊎_elim, suc-le-suc, arith}
+use Rattle.std.proofs.Common.{◌≡◌, ℕ, zero, suc, ◌+◌, ◌-◌, ◌*◌, ◌/◌, ◌^◌, ◌<◌, ◌≤◌, true, false, ◌&&◌, leb, List, [], ◌∷◌, length, get_or, ℤ, pos, negsuc, ◌+ℤ◌, nat_abs, ◌≤ℤ◌, Some, None, sym, refl, ap, ◌∙◌, subst, ⊎_elim, suc-le-suc, arith}
 use Rattle.book.specs.Sound.{Bounded, Changes, Covered, Each, InDay, InSlots, Light, nets, slots_of}
 use Rattle.book.specs.States.{nobody}
-use Rattle.book.specs.Stations.{available, drawn, due_of, filed_on, moved, paid, receivable, revised_in, settled_at, slot_of, with_net}
+use Rattle.book.specs.Stations.{available, drawn, due_of, filed_on, moved, paid, receivable, revised_in, settled_at, slot_of}
 use Rattle.book.specs.declared.station.Station.{Station}
 use Rattle.std.proofs.lemmas.List.{get_or_default}
 use Rattle.std.proofs.lemmas.Int.{ints}

@@ -1,11 +1,11 @@
 -- The promises, from the causes that do not hold in an accepted call.
-use Rattle.std.proofs.Common.{◌≡◌, ℕ, zero, suc, ◌+◌, ◌-◌, ◌*◌, ◌<◌, ◌≤◌, Bool, true, false, cond, not, eqb, ltb, leb, ◌⊎◌, List, [], ◌∷◌, ◌++◌, length, get_or, take, drop, ℤ, Some, None, Ok, Err, Option, unwrap_or, sym, refl, ap, ◌∙◌, subst, inl, inr, ⊎_elim, arith}
-use Rattle.book.specs.Calls.{Outcome, correcting, first_revised, posted, revising, settling, unless}
+use Rattle.std.proofs.Common.{◌≡◌, ℕ, zero, suc, ◌+◌, ◌-◌, ◌*◌, ◌<◌, ◌≤◌, Bool, true, false, not, eqb, ltb, leb, List, [], ◌∷◌, ◌++◌, length, get_or, take, drop, ℤ, Some, None, Option, unwrap_or, sym, refl, ap, ◌∙◌, subst, ⊎_elim, arith}
+use Rattle.book.specs.Calls.{first_revised, posted, revising, unless}
 use Rattle.book.specs.Causes.{bad_notice, high_values, used_slot, value_count, wrong_number}
 use Rattle.book.specs.Lists.{spliced}
-use Rattle.book.specs.Promises.{Apart, FromTheFourthBlock, NobodyElsesAccount, OneRevisionASlot, Revised, Taken}
+use Rattle.book.specs.Promises.{Apart, FromTheFourthBlock, NobodyElsesAccount, OneRevisionASlot, Taken}
 use Rattle.book.specs.Refusals.{first, when}
-use Rattle.book.specs.States.{State, admission, nobody, no_station, owner_of, presence, sheet_at, short_page, short_pages, station_at, wrong_phase}
+use Rattle.book.specs.States.{State, admission, nobody, no_station, owner_of, presence, sheet_at, short_page, short_pages, station_at}
 use Rattle.book.specs.Stations.{moved, slot_of}
 use Rattle.book.specs.declared.station.Action.{Action}
 use Rattle.book.specs.declared.station.Action.TheVariants.{Correct, Revise, Settle}

@@ -1,7 +1,6 @@
 -- A search for a missing reading in one block, generator by generator.
 use Rattle.std.proofs.Common.{◌≡◌, ℕ, suc, ◌+◌, ◌-◌, ◌*◌, ◌<◌, ◌≤◌, Bool, true, false, cond, not, ◌&&◌, List, get_or, is_some, Some, None, Option, sym, refl, ap, ◌∙◌, arith}
 use Rattle.posting.specs.Missing.{missing_at, missing_in}
-use Rattle.posting.specs.declared.place.Place.{Place}
 use Rattle.std.proofs.lemmas.Bool.{cond-false, cond-true}
 
 absent : (o : Option ℕ) (b : Bool) → is_some o ≡ b → (not (is_some o) && true) ≡ not b

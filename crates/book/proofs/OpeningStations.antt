@@ -1,5 +1,5 @@
 -- Stations that have just been opened.
-use Rattle.std.proofs.Common.{◌≡◌, ℕ, zero, suc, ◌+◌, ◌<◌, ◌≤◌, List, [], ◌∷◌, map, length, get_or, take, ℤ, pos, ◌+ℤ◌, sym, refl, ap, ◌∙◌, arith, pow_pos}
+use Rattle.std.proofs.Common.{◌≡◌, ℕ, zero, suc, ◌+◌, ◌<◌, List, [], ◌∷◌, map, length, get_or, take, pos, sym, refl, ap, ◌∙◌, arith, pow_pos}
 use Rattle.book.specs.Opening.{generators_in, station_opened, opened_stations, View, view_of}
 use Rattle.book.specs.Sound.{Covered, Each, generators_of, InDay, InSlots, Laid, Light, nets, slots_of}
 use Rattle.book.specs.declared.station.Station.{Station}

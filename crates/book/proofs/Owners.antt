@@ -1,5 +1,5 @@
 -- The station of a generator.
-use Rattle.std.proofs.Common.{◌≡◌, ℕ, zero, suc, ◌+◌, ◌-◌, ◌<◌, ◌≤◌, cond, ltb, List, [], ◌∷◌, length, get_or, take, drop, sym, refl, ap, ◌∙◌, subst, ⊎_elim, suc-le-suc, add-one, arith, drop_of_length-le, drop-cons}
+use Rattle.std.proofs.Common.{◌≡◌, ℕ, suc, ◌+◌, ◌-◌, ◌<◌, ◌≤◌, cond, ltb, List, [], ◌∷◌, length, get_or, take, drop, sym, ap, ◌∙◌, subst, ⊎_elim, suc-le-suc, add-one, arith, drop_of_length-le, drop-cons}
 use Rattle.book.specs.Sound.{generators_of, Laid}
 use Rattle.book.specs.States.{owner_from, nobody}
 use Rattle.book.specs.declared.station.Station.{Station}

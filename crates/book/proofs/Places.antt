@@ -1,6 +1,6 @@
 -- What a list of stations keeps when one of them changes.
-use Rattle.std.proofs.Common.{◌≡◌, ℕ, zero, suc, ◌+◌, ◌<◌, ◌≤◌, List, [], ◌∷◌, length, get_or, take, set, ℤ, pos, ◌+ℤ◌, sym, refl, ap, ◌∙◌, suc-le-suc, arith, length-set}
-use Rattle.book.specs.Sound.{Covered, Each, generators_of, Laid, nets}
+use Rattle.std.proofs.Common.{◌≡◌, ℕ, zero, suc, ◌+◌, ◌<◌, ◌≤◌, List, [], ◌∷◌, length, get_or, take, set, ◌+ℤ◌, sym, refl, ap, ◌∙◌, suc-le-suc, arith, length-set}
+use Rattle.book.specs.Sound.{Each, generators_of, Laid, nets}
 use Rattle.book.specs.declared.station.Station.{Station}
 use Rattle.std.proofs.lemmas.Int.{ints}
 

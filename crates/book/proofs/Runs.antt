@@ -1,5 +1,5 @@
 -- Calls one after another: one more, and all of them.
-use Rattle.std.proofs.Common.{◌≡◌, ℕ, ◌+◌, ◌<◌, ◌≤◌, List, [], ◌∷◌, ◌++◌, length, get_or, take, ℤ, sym, refl, ◌∙◌, subst}
+use Rattle.std.proofs.Common.{◌≡◌, ℕ, ◌+◌, ◌<◌, ◌≤◌, List, [], ◌∷◌, ◌++◌, length, get_or, take, ℤ, sym, subst}
 use Rattle.book.specs.Calls.{Answer}
 use Rattle.book.specs.Runs.{Run, step}
 use Rattle.book.specs.States.{State}

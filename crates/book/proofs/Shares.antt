@@ -1,5 +1,5 @@
 -- What a generator is told of its share.
-use Rattle.std.proofs.Common.{◌≡◌, ℕ, ◌-◌, ◌≤◌, [], ◌∷◌, List, ℤ, None, Option, nat_abs, sym, ap, subst, arith, w64, to_z, of_z}
+use Rattle.std.proofs.Common.{◌≡◌, ℕ, ◌≤◌, [], ◌∷◌, List, ℤ, None, Option, nat_abs, subst, arith, w64, to_z, of_z}
 use Rattle.book.specs.Calls.{missing_reading}
 use Rattle.book.specs.Causes.{bad_blocks}
 use Rattle.book.specs.Questions.{share_refusal}

@@ -1,6 +1,6 @@
 -- What follows of the calls, in the words of the rules.
 use Rattle.std.specs.Prelude.{◌≡◌, ℕ, ◌+◌, ◌-◌, ◌*◌, ◌<◌, ◌≤◌, true, false, List, length, ℤ, Some, Ok, ◌≢◌, slice_index, slice_index_or}
-use Rattle.book.specs.Calls.{Outcome, correcting, first_revised, posted, revising, settling}
+use Rattle.book.specs.Calls.{Outcome, correcting, first_revised, revising, settling}
 use Rattle.book.specs.States.{State, owner_of, station_at}
 use Rattle.book.specs.Stations.{slot_of}
 use Rattle.book.specs.declared.station.Station.{Station}

@@ -1,5 +1,5 @@
 -- What the questions answer, and why they are refused.
-use Rattle.std.specs.Prelude.{ℕ, ◌-◌, List, [], ◌∷◌, ℤ, None, Option, slice_index_or}
+use Rattle.std.specs.Prelude.{ℕ, ◌-◌, [], ◌∷◌, ℤ, None, Option, slice_index_or}
 use Rattle.book.specs.Calls.{missing_reading}
 use Rattle.book.specs.Causes.{bad_blocks}
 use Rattle.book.specs.Refusals.{first}
@@ -11,7 +11,6 @@ use Rattle.book.specs.declared.station.Station.{Station}
 use Rattle.posting.specs.Days.{charge_at, energy_share, money_share, no_account}
 use Rattle.posting.specs.Missing.{missing_in}
 use Rattle.posting.specs.Sheets.{deviation_at}
-use Rattle.posting.specs.declared.account.Account.{Account}
 use Rattle.share.specs.declared.load.Load.{Load}
 use Rattle.tariff.specs.declared.query.Query.{Query}
 use Rattle.units.specs.Bits.{count_of}

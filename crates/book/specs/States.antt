@@ -1,5 +1,5 @@
 -- The book and the pages lent with it, and what every call tests first.
-use Rattle.std.specs.Prelude.{◌≡◌, ℕ, ◌+◌, ◌*◌, ◌<◌, ◌≤◌, Bool, cond, not, List, [], ◌∷◌, length, is_some, vec_items, Option, nat_le, nat_lt, slice_index_or}
+use Rattle.std.specs.Prelude.{◌≡◌, ℕ, ◌+◌, ◌*◌, ◌<◌, ◌≤◌, cond, not, List, [], ◌∷◌, length, is_some, vec_items, Option, nat_le, nat_lt, slice_index_or}
 use Rattle.book.specs.Refusals.{first, when}
 use Rattle.book.specs.Sound.{generators_of}
 use Rattle.book.specs.Stations.{fresh, moved, moves}

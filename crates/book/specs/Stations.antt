@@ -1,5 +1,5 @@
 -- What the calls do to one station.
-use Rattle.std.specs.Prelude.{ℕ, suc, ◌+◌, ◌-◌, ◌/◌, Bool, cond, ◌&&◌, ℤ, pos, negsuc, ◌+ℤ◌, ◌-ℤ◌, Some, None, Option, nat_le}
+use Rattle.std.specs.Prelude.{ℕ, suc, ◌-◌, ◌/◌, cond, ◌&&◌, ℤ, pos, negsuc, ◌+ℤ◌, ◌-ℤ◌, Some, None, Option, nat_le}
 use Rattle.book.specs.declared.station.Action.{Action}
 use Rattle.book.specs.declared.station.Action.TheVariants.{File, Declare, Issue, Revise, Close, Read, Settle, Correct, Ask}
 use Rattle.book.specs.declared.station.Station.{Station}

@@ -1,5 +1,5 @@
 -- A station's generators in one block, taken from the pages one by one.
-use Rattle.std.proofs.Common.{◌≡◌, ℕ, zero, suc, ◌+◌, ◌-◌, ◌*◌, ◌<◌, ◌≤◌, List, [], ◌∷◌, ◌++◌, length, get_or, take, set, ℤ, pos, sum_by, sum, sym, refl, ap, ◌∙◌, add-one, arith}
+use Rattle.std.proofs.Common.{◌≡◌, ℕ, zero, suc, ◌+◌, ◌-◌, ◌*◌, ◌<◌, ◌≤◌, List, [], ◌∷◌, ◌++◌, length, get_or, take, set, ℤ, pos, sum_by, sum, refl, ap, ◌∙◌, add-one, arith}
 use Rattle.posting.specs.Sheets.{Sheet, load_at, loads_at, loads_from, query_at, schedule_entry_at, weights_at}
 use Rattle.posting.specs.declared.block.Figures.{Figures}
 use Rattle.posting.specs.declared.members.Members.{Members}

@@ -1,4 +1,4 @@
-use Rattle.std.proofs.Common.{◌≡◌, ◌+◌, ◌<◌, ◌≤◌, ◌++◌, map, length, get_or, drop, vec_items, sym, ap, ◌∙◌, arith}
+use Rattle.std.proofs.Common.{◌+◌, ◌<◌, ◌≤◌, ◌++◌, map, length, get_or, drop, vec_items, sym, ap, ◌∙◌, arith}
 use Rattle.book.proofs.OpeningChecks.{laid_at, laid_end, sound_count, sound_here}
 use Rattle.book.proofs.opening.lay_stations.Goals as goal
 use Rattle.book.specs.Opening.{opened_stations, view_of}

@@ -1,7 +1,7 @@
-use Rattle.std.proofs.Common.{◌≡◌, ◌<◌, ◌≤◌, true, false, length, get_or, drop, sym, ap, ◌∙◌, arith}
+use Rattle.std.proofs.Common.{◌≡◌, ◌<◌, ◌≤◌, true, false, length, get_or, ◌∙◌, arith}
 use Rattle.book.proofs.OpeningChecks.{generators_at_lem, generators_end, sound_at, sound_count, stations_end, unsound_at}
 use Rattle.book.proofs.opening.sound_stations.Goals as goal
-use Rattle.book.specs.Opening.{generators_in, sound_station}
+use Rattle.book.specs.Opening.{sound_station}
 
 pub returns-then-not-is_sound : goal.returns-then-not-is_sound
 returns-then-not-is_sound c =

@@ -1,4 +1,4 @@
-use Rattle.std.proofs.Common.{◌≡◌, ◌+◌, ◌<◌, [], length, set, ap, ◌∙◌, arith}
+use Rattle.std.proofs.Common.{◌+◌, [], set, ap, ◌∙◌, arith}
 use Rattle.book.proofs.Writes.{pasted}
 use Rattle.book.proofs.pages.fill.Goals as goal
 use Rattle.std.proofs.lemmas.List.Edits.{fill_from_more, paste_none}

@@ -4,7 +4,7 @@ use Rattle.posting.specs.Sheets.{sheet_of}
 use Rattle.share.proofs.Fairness.{fair}
 use Rattle.share.specs.Keys.{weights}
 use Rattle.tariff.specs.Charges.{deviation_of}
-use Rattle.std.proofs.Common.{ap, ◌∙◌, arith}
+use Rattle.std.proofs.Common.{ap, ◌∙◌}
 
 pub figures_of-figures-requires : goal.figures_of-figures-requires
 figures_of-figures-requires g c =

@@ -1,4 +1,4 @@
-use Rattle.std.proofs.Common.{◌<◌, ◌≤◌, length, arith}
+use Rattle.std.proofs.Common.{◌≤◌, length, arith}
 use Rattle.book.proofs.Changes.{bounded_at, drawn_back}
 use Rattle.book.proofs.book.Book.draw.Goals as goal
 

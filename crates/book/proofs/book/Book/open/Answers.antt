@@ -1,4 +1,4 @@
-use Rattle.std.proofs.Common.{◌≡◌, ◌≤◌, map, length, sym, refl, ◌∙◌, subst, arith}
+use Rattle.std.proofs.Common.{◌≡◌, map, length, sym, refl, ◌∙◌, subst, arith}
 use Rattle.book.proofs.OpeningPages.{begun_for}
 use Rattle.book.proofs.OpeningStations.{covered_opened, each_opened, in_day_opened, in_slots_opened, laid_opened, light_opened, opened_for, sums_opened}
 use Rattle.book.proofs.book.Book.open.Goals as goal

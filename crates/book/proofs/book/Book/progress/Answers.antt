@@ -1,4 +1,4 @@
-use Rattle.std.proofs.Common.{◌≡◌, ◌≤◌, get_or, ap, ◌∙◌, arith}
+use Rattle.std.proofs.Common.{◌≡◌, get_or, ap, ◌∙◌, arith}
 use Rattle.book.proofs.Changes.{slots_few}
 use Rattle.book.proofs.book.Book.progress.Goals as goal
 use Rattle.book.specs.Questions.{progress_of}

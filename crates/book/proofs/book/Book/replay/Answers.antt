@@ -3,7 +3,7 @@ use Rattle.book.proofs.Runs.{run_all, run_more}
 use Rattle.book.proofs.book.Book.replay.Goals as goal
 use Rattle.book.specs.Runs.{step}
 use Rattle.book.specs.States.{state}
-use Rattle.std.proofs.Common.{get_or, vec_items, ap, ◌∙◌, arith}
+use Rattle.std.proofs.Common.{vec_items, ap, ◌∙◌, arith}
 use Rattle.units.specs.declared.call.Call.{Call}
 
 pub loop-call-preserved : goal.loop-call-preserved

@@ -22,6 +22,6 @@ returns g c =
     let energy : nat_abs (get_or c.block_shares-shares.result.energy k (pos 0)) ≤ 64000000000 = share_kept _ _ _ k _ _ (ap (λ f. f.deviation) b.figures) (b.energy k) (omega (arith, b.farthest)) in (
       not_refused asked c.args.block s m c.deref.result.now c.in_ok-t.ensures.0 members c.deref.ensures.value c.in_ok-block_read.ensures.0,
       same_amounts
-        (handed _ _ money (b.money k ∙ money_same g.K.Key.weighs _ _ _ _ _ _ _ _ c.args.block sheets own.owner.is members place (g.T.Tariff.charge_of c.args.self.now.tariff)))
-        (handed _ _ energy (b.energy k ∙ energy_same g.K.Key.weighs _ _ _ _ _ _ _ _ c.args.block sheets own.owner.is members place)),
+          (handed _ _ money (b.money k ∙ money_same g.K.Key.weighs _ _ _ _ _ _ _ _ c.args.block sheets own.owner.is members place (g.T.Tariff.charge_of c.args.self.now.tariff)))
+          (handed _ _ energy (b.energy k ∙ energy_same g.K.Key.weighs _ _ _ _ _ _ _ _ c.args.block sheets own.owner.is members place)),
     )

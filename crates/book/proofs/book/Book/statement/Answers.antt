@@ -1,4 +1,4 @@
-use Rattle.std.proofs.Common.{◌≡◌, ◌+◌, ◌≤◌, length, ap, arith, rules}
+use Rattle.std.proofs.Common.{◌+◌, ◌≤◌, length, ap, arith, rules}
 use Rattle.book.proofs.Changes.{bounded_at}
 use Rattle.book.proofs.Places.{end_within}
 use Rattle.book.proofs.book.Book.statement.Goals as goal

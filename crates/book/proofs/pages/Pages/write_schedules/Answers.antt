@@ -1,7 +1,7 @@
 use Rattle.book.proofs.Writes.{back}
 use Rattle.book.proofs.pages.Pages.write_schedules.Goals as goal
 use Rattle.book.specs.Lists.{spliced}
-use Rattle.std.proofs.Common.{◌≡◌, length, replicate, refl, ap, ◌∙◌, arith}
+use Rattle.std.proofs.Common.{◌≡◌, length, refl, ap, ◌∙◌, arith}
 
 pub returns : goal.returns
 returns c =
