@@ -36,7 +36,6 @@ when_none true f h = let z : ◌≡◌ {A = ℕ} 0 1 = cc in absurd (omega arith
 
 -- the first page is long enough, and the station is there
 admitted : (a : Action) (t : ℕ) (s : State) → admission a t s ≡ None → (96 * length s.stations ≤ length s.schedules) × (t < length s.stations)
-unfolding admission presence short_pages short_page
 admitted a t s h =
     let there = (first_none (presence t s) _ h).0 in
     let pages = first_none (short_pages s) _ there in
@@ -77,7 +76,6 @@ pub record Passed (t k n : ℕ) (vs : List ℕ) (s : State) (slot : ℕ) : Type 
   pub fresh_slot : used_slot slot (last_of (station_at s t).slots.bits) ≡ None
 
 passed : (t k n : ℕ) (vs : List ℕ) (s : State) → Taken (revising t k n vs s) → (slot : ℕ) × Passed t k n vs s slot
-unfolding value_count wrong_number
 passed t k n vs s h =
     let x = station_at s t in
     let o = slot_of x.kind n in
@@ -138,7 +136,7 @@ last_top bits (suc k) m h t = ⊎_elim
     (cases_Bool (has bits k))
 
 pub one_revision_a_slot_lem : OneRevisionASlot
-unfolding last_of used_slot
+unfolding last_of
 one_revision_a_slot_lem t k n vs s h =
     let p = passed t k n vs s h in
     let bits = (station_at s t).slots.bits in (

@@ -112,7 +112,7 @@ metering g from to kw s = unless
     (with_readings (spliced (96 * g + from) (replicate (to - from + 1) (Some kw)) s.readings) s)
 
 -- a reading that the result needs is missing
-unfoldable pub missing_reading : Option Place → Option Fault
+abbrev pub missing_reading : Option Place → Option Fault
 missing_reading None = None
 missing_reading (Some p) = Some (MissingReading p.generator p.block)
 

@@ -5,11 +5,11 @@ use Rattle.units.specs.declared.fault.Fault.{Fault}
 use Rattle.units.specs.declared.fault.Fault.TheVariants.{BadAmount, BadBlocks, BadNotice, HighValue, RevisionNumber, UsedSlot, ValueCount}
 
 -- a block above 95, or the first after the last
-unfoldable pub bad_blocks : ℕ → ℕ → Option Fault
+abbrev pub bad_blocks : ℕ → ℕ → Option Fault
 bad_blocks from to = when (nat_lt 95 to || nat_lt to from) (BadBlocks from to)
 
 -- the value at a position is above its limit
-unfoldable pub high_value : ℕ → ℕ → ℕ → Option Fault
+abbrev pub high_value : ℕ → ℕ → ℕ → Option Fault
 high_value position limit value = when (nat_lt limit value) (HighValue position limit)
 
 -- the first of the values from a position on that is above the limit
@@ -23,18 +23,18 @@ bad_notice n None = Some (BadNotice n)
 bad_notice n (Some slot) = None
 
 -- not as many values as the revision has blocks
-unfoldable pub value_count : ℕ → ℕ → Option Fault
+abbrev pub value_count : ℕ → ℕ → Option Fault
 value_count given needed = when (not (given == needed)) (ValueCount given needed)
 
 -- not the number after those used
-unfoldable pub wrong_number : ℕ → ℕ → Option Fault
+abbrev pub wrong_number : ℕ → ℕ → Option Fault
 wrong_number given used = when (not (given == used + 1)) (RevisionNumber given (used + 1))
 
 -- a slot that is not later than the last one used
-unfoldable pub used_slot : ℕ → Option ℕ → Option Fault
+abbrev pub used_slot : ℕ → Option ℕ → Option Fault
 used_slot slot None = None
 used_slot slot (Some last) = when (nat_le slot last) (UsedSlot slot last)
 
 -- an amount of nothing, or above 10^12 paise
-unfoldable pub bad_amount : ℕ → ℕ → Option Fault
+abbrev pub bad_amount : ℕ → ℕ → Option Fault
 bad_amount t x = when (x == 0 || nat_lt (10 ^ 12) x) (BadAmount t x)

@@ -26,7 +26,7 @@ generators_in (count ∷ counts) = count + generators_in counts
 -- the causes
 
 -- not 1 to 16 stations, or not as many counts as kinds
-unfoldable pub station_count_fault : ℕ → ℕ → Option Fault
+abbrev pub station_count_fault : ℕ → ℕ → Option Fault
 station_count_fault kinds counts = when (kinds == 0 || (nat_lt 16 kinds || not (counts == kinds))) (StationCount kinds counts)
 
 -- a wind station, 0, or a solar one, 1, of 1 to 32 generators
@@ -40,7 +40,7 @@ bad_stations t (kind ∷ kinds) [] = None
 bad_stations t (kind ∷ kinds) (count ∷ counts) = cond (sound_station kind count) (bad_stations (t + 1) kinds counts) (Some (BadStation t))
 
 -- not an installed power for each generator
-unfoldable pub installed_count_fault : ℕ → ℕ → Option Fault
+abbrev pub installed_count_fault : ℕ → ℕ → Option Fault
 installed_count_fault given needed = when (not (given == needed)) (InstalledCount given needed)
 
 -- the first of the generators from number g on with an installed power outside 1,000 to 200,000 kW

@@ -48,7 +48,7 @@ abbrev pub alone : Members
 alone = record { first = 0; count = 1; low = lit≤ tt; some = lit< tt; few = lit≤ tt }
 
 -- no station, which stands past the end of the list
-unfoldable pub nobody : Station
+abbrev pub nobody : Station
 nobody = fresh Wind alone
 
 abbrev pub station_at : State → ℕ → Station
@@ -64,7 +64,7 @@ owner_of s g = owner_from 0 s.stations g
 
 -- the causes that calls share
 
-unfoldable pub short_page : ℕ → ℕ → ℕ → Option Fault
+abbrev pub short_page : ℕ → ℕ → ℕ → Option Fault
 short_page page given needed = when (nat_lt given needed) (ShortPage page needed)
 
 -- how many entries the four pages have
@@ -99,7 +99,7 @@ short_for stations generators l = first (
     ∷ short_page 4 l.accounts generators
     ∷ [])
 
-unfoldable pub short_pages : State → Option Fault
+abbrev pub short_pages : State → Option Fault
 short_pages s = short_for (length s.stations) (generators s) (lengths_of s)
 
 -- the pages have room for so many stations and generators
@@ -126,19 +126,19 @@ abbrev pub wrong_phase : Action → ℕ → State → Option Fault
 wrong_phase a t s = when (not (is_some (moves (station_at s t).phase a))) (WrongPhase t (station_at s t).phase)
 
 -- the pages fit, and there is station t
-unfoldable pub presence : ℕ → State → Option Fault
+abbrev pub presence : ℕ → State → Option Fault
 presence t s = first (short_pages s ∷ no_station t s ∷ [])
 
 -- a call on station t that depends on its phase
-unfoldable pub admission : Action → ℕ → State → Option Fault
+abbrev pub admission : Action → ℕ → State → Option Fault
 admission a t s = first (presence t s ∷ wrong_phase a t s ∷ [])
 
 -- the pages fit, and there is generator g
-unfoldable pub generator_presence : ℕ → State → Option Fault
+abbrev pub generator_presence : ℕ → State → Option Fault
 generator_presence g s = first (short_pages s ∷ no_generator g s ∷ [])
 
 -- a call on generator g that depends on its station's phase
-unfoldable pub generator_admission : Action → ℕ → State → Option Fault
+abbrev pub generator_admission : Action → ℕ → State → Option Fault
 generator_admission a g s = first (generator_presence g s ∷ wrong_phase a (owner_of s g) s ∷ [])
 
 -- x is the station t of the list

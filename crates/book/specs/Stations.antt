@@ -87,11 +87,11 @@ abbrev pub drawn : ℕ → Station → Station
 drawn x s = with_net (s.net +ℤ pos x) s
 
 -- the phase that an action leads to
-unfoldable pub phase_after : Action → Station → Phase
+abbrev pub phase_after : Action → Station → Phase
 phase_after a s = unwrap_or (moves s.phase a) s.phase
 
 abbrev pub moved : Action → Station → Station
-moved a s = in_phase (phase_after a s) s
+moved a s = in_phase (unwrap_or (moves s.phase a) s.phase) s
 
 -- the standing charges and what was drawn, less what was paid
 abbrev pub due_of : Station → ℤ

@@ -13,7 +13,7 @@ use units::fault::Fault;
 use units::limits::BLOCKS;
 
 /// The blocks `from` to `to` are blocks of the day, in this order.
-fn in_day(from: u64, to: u64) -> Result<(), Fault>
+pub fn in_day(from: u64, to: u64) -> Result<(), Fault>
     ensures { Checks (bad_blocks from to) (λ _. (from ≤ to) × (to < 96)) result }
 {
     if to >= BLOCKS as u64 || from > to {
@@ -23,7 +23,7 @@ fn in_day(from: u64, to: u64) -> Result<(), Fault>
 }
 
 /// A single value is at most its limit.
-fn at_most(limit: u32, value: u64) -> Result<u32, Fault>
+pub fn at_most(limit: u32, value: u64) -> Result<u32, Fault>
     ensures { Checks (high_value 0 limit value) (λ kw. (kw ≡ value) × (value ≤ limit)) result }
 {
     if value > u64::from(limit) {
@@ -105,7 +105,7 @@ pub fn complete(
 }
 
 /// No reading of a station is missing in the block.
-fn block_complete(readings: &[Option<u32>], members: Members, block: usize) -> Result<(), Fault>
+pub fn block_complete(readings: &[Option<u32>], members: Members, block: usize) -> Result<(), Fault>
     requires { block < 96 }
     ensures { Checks (missing_reading (missing_in readings.now None block members.first members.count)) (λ _. Unit {0}) result }
 {

@@ -3,9 +3,7 @@ use Rattle.book.proofs.checks.as_many.Goals as goal
 use Rattle.book.specs.Causes.{value_count}
 
 pub returns-then-given-needed : goal.returns-then-given-needed
-unfolding value_count
 returns-then-given-needed c = search rules
 
 pub returns : goal.returns
-unfolding value_count
 returns c = search rules

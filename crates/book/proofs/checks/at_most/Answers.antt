@@ -3,9 +3,7 @@ use Rattle.book.proofs.checks.at_most.Goals as goal
 use Rattle.book.specs.Causes.{high_value}
 
 pub returns-then-value-from : goal.returns-then-value-from
-unfolding high_value
 returns-then-value-from c = search rules
 
 pub returns : goal.returns
-unfolding high_value
 returns c = search rules

@@ -5,7 +5,6 @@ use Rattle.book.specs.Calls.{missing_reading}
 use Rattle.posting.specs.Missing.{missing_in}
 
 pub returns-then-is_none : goal.returns-then-is_none
-unfolding missing_reading
 returns-then-is_none c =
     let rs = c.args.readings.now in
     let b = c.args.block in
@@ -24,7 +23,6 @@ loop-k-preserved c =
     passed rs b first c.count-k-end.result c.loop-k.k (omega arith) c.loop-k.invariant there
 
 pub returns : goal.returns
-unfolding missing_reading
 returns c =
     let rs = c.args.readings.now in
     let b = c.args.block in

@@ -3,9 +3,7 @@ use Rattle.book.proofs.checks.complete.Goals as goal
 use Rattle.book.specs.Calls.{missing_reading}
 
 pub returns-in-Some : goal.returns-in-Some
-unfolding missing_reading
 returns-in-Some c = search rules
 
 pub returns-in-None : goal.returns-in-None
-unfolding missing_reading
 returns-in-None c = search rules

@@ -3,9 +3,7 @@ use Rattle.book.proofs.checks.in_day.Goals as goal
 use Rattle.book.specs.Causes.{bad_blocks}
 
 pub returns-then-to : goal.returns-then-to
-unfolding bad_blocks
 returns-then-to c = search rules
 
 pub returns : goal.returns
-unfolding bad_blocks
 returns c = search rules

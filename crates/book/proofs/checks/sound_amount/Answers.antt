@@ -3,9 +3,7 @@ use Rattle.book.proofs.checks.sound_amount.Goals as goal
 use Rattle.book.specs.Causes.{bad_amount}
 
 pub returns-then-amount-eq0 : goal.returns-then-amount-eq0
-unfolding bad_amount
 returns-then-amount-eq0 c = search rules
 
 pub returns : goal.returns
-unfolding bad_amount
 returns c = search rules

@@ -3,9 +3,7 @@ use Rattle.book.proofs.opening.installed_count.Goals as goal
 use Rattle.book.specs.Opening.{installed_count_fault}
 
 pub returns-then-given-needed : goal.returns-then-given-needed
-unfolding installed_count_fault
 returns-then-given-needed c = search rules
 
 pub returns : goal.returns
-unfolding installed_count_fault
 returns c = search rules

@@ -3,9 +3,7 @@ use Rattle.book.proofs.opening.station_count.Goals as goal
 use Rattle.book.specs.Opening.{station_count_fault}
 
 pub returns-then-kinds-eq0 : goal.returns-then-kinds-eq0
-unfolding station_count_fault
 returns-then-kinds-eq0 c = search rules
 
 pub returns : goal.returns
-unfolding station_count_fault
 returns c = search rules

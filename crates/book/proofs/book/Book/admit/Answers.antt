@@ -4,13 +4,10 @@ use Rattle.book.specs.States.{admission}
 use Rattle.book.specs.Stations.{phase_after}
 
 pub returns-in_err-station : goal.returns-in_err-station
-unfolding admission phase_after
 returns-in_err-station g c = search rules
 
 pub returns-in-Some : goal.returns-in-Some
-unfolding admission phase_after
 returns-in-Some g c = search rules
 
 pub returns-in-None : goal.returns-in-None
-unfolding admission phase_after
 returns-in-None g c = search rules

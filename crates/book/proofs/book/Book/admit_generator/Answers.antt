@@ -5,13 +5,10 @@ use Rattle.book.specs.States.{generator_admission}
 use Rattle.book.specs.Stations.{phase_after}
 
 pub returns-in_err-t : goal.returns-in_err-t
-unfolding generator_admission phase_after
 returns-in_err-t g c = search rules
 
 pub returns-in-Some : goal.returns-in-Some
-unfolding generator_admission phase_after
 returns-in-Some g c = search (rules, get_or_read)
 
 pub returns-in-None : goal.returns-in-None
-unfolding generator_admission phase_after
 returns-in-None g c = search (rules, get_or_read)

@@ -5,15 +5,12 @@ use Rattle.book.specs.Sound.{generators_of}
 use Rattle.book.specs.States.{generator_presence}
 
 pub returns-in_err-fit : goal.returns-in_err-fit
-unfolding generator_presence
 returns-in_err-fit g c = search rules
 
 pub returns-then-generator-self : goal.returns-then-generator-self
-unfolding generator_presence
 returns-then-generator-self g c = search rules
 
 pub returns : goal.returns
-unfolding generator_presence
 returns g c =
     let b = c.args.self.now in
     let there : c.args.generator < generators_of b.stations.items = omega (arith, b.all) in

@@ -3,9 +3,7 @@ use Rattle.book.proofs.book.Book.find_station.Goals as goal
 use Rattle.book.specs.States.{presence}
 
 pub returns-in_err-fit : goal.returns-in_err-fit
-unfolding presence
 returns-in_err-fit g c = search rules
 
 pub returns : goal.returns
-unfolding presence
 returns g c = search rules

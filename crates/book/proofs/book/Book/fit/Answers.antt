@@ -3,5 +3,4 @@ use Rattle.book.proofs.book.Book.fit.Goals as goal
 use Rattle.book.specs.States.{short_pages}
 
 pub returns : goal.returns
-unfolding short_pages
 returns g c = search rules
