@@ -1,6 +1,6 @@
 -- Where the arguments do not fit the sorts.
 use Rattle.std.proofs.Common.{◌≡◌, ℕ, suc, ◌+◌, ◌-◌, ◌<◌, true, List, [], ◌∷◌, map, length, get_or, take, drop, sym, refl, ap, ◌∙◌, subst, add-one, arith}
-use Rattle.std.specs.List.{AllByRecursion as All}
+use Rattle.std.specs.List.{AllByRecursion}
 use Rattle.std.proofs.lemmas.List.{take_rest}
 use Rattle.grammar.specs.Calls.{Misfit}
 use Rattle.tokens.specs.Tokens.{SoundPart}
@@ -54,6 +54,6 @@ of_sort (Number ds) Several e = let z : ◌≡◌ {A = ℕ} 0 1 = cc in absurd (
 of_sort (Listed ns) Single e = let z : ◌≡◌ {A = ℕ} 0 1 = cc in absurd (omega arith)
 of_sort (Listed ns) Several e = refl
 
-pub sound_tail : (ps : List Part) → All SoundPart ps → All SoundPart (take (length ps - 1) (drop 1 ps))
+pub sound_tail : (ps : List Part) → AllByRecursion SoundPart ps → AllByRecursion SoundPart (take (length ps - 1) (drop 1 ps))
 sound_tail [] a = a
-sound_tail (p ∷ ps) a = subst (All SoundPart) (sym (take_rest (p ∷ ps) 1)) a.1
+sound_tail (p ∷ ps) a = subst (AllByRecursion SoundPart) (sym (take_rest (p ∷ ps) 1)) a.1

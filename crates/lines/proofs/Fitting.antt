@@ -1,6 +1,6 @@
 -- Whether the arguments of a form fit its head.
 use Rattle.std.proofs.Common.{◌≡◌, ℕ, zero, suc, ◌-◌, ◌≤◌, min, Bool, true, List, [], ◌∷◌, map, length, take, sym, refl, ap, ◌∙◌, subst, arith, length-take}
-use Rattle.std.specs.List.{AllByRecursion as All}
+use Rattle.std.specs.List.{AllByRecursion}
 use Rattle.std.proofs.lemmas.List.{take_all, take-take, take-map}
 use Rattle.grammar.specs.Calls.{Misfit, sorts, name}
 use Rattle.grammar.specs.Grammar.{Arg, SoundArg}
@@ -42,15 +42,15 @@ gathered_sorts line t n count parts q g e =
     sorts_of (take n parts) ∙ ap (λ k. map arg_sort (map arg_of (take k parts))) (e ∙ ap (min 5) q.counted)
     ∙ ap (map arg_sort) (g q.form q.is) ∙ sym (take-map arg_sort 5 q.form.args)
 
-pub gathered_sound : (line : List ℕ) (t : Token) (n count : ℕ) (parts : List Part) → Found line t count → Gathers line parts → n ≡ min 5 count → All SoundPart (take n parts)
+pub gathered_sound : (line : List ℕ) (t : Token) (n count : ℕ) (parts : List Part) → Found line t count → Gathers line parts → n ≡ min 5 count → AllByRecursion SoundPart (take n parts)
 gathered_sound line t n count parts q g e =
-    each (take n parts) (subst (All SoundArg) (sym (ap (λ k. map arg_of (take k parts)) (e ∙ ap (min 5) q.counted) ∙ g q.form q.is)) (some 5 q.form.args q.is.sound.args))
+    each (take n parts) (subst (AllByRecursion SoundArg) (sym (ap (λ k. map arg_of (take k parts)) (e ∙ ap (min 5) q.counted) ∙ g q.form q.is)) (some 5 q.form.args q.is.sound.args))
   where
-    each : (ps : List Part) → All SoundArg (map arg_of ps) → All SoundPart ps
+    each : (ps : List Part) → AllByRecursion SoundArg (map arg_of ps) → AllByRecursion SoundPart ps
     each [] a = tt
     each (p ∷ ps) a = (a.0, each ps a.1)
 
-    some : (n : ℕ) (xs : List Arg) → All SoundArg xs → All SoundArg (take n xs)
+    some : (n : ℕ) (xs : List Arg) → AllByRecursion SoundArg xs → AllByRecursion SoundArg (take n xs)
     some zero xs a = tt
     some (suc n) [] a = tt
     some (suc n) (x ∷ xs) a = (a.0, some n xs a.1)

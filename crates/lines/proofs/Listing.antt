@@ -1,7 +1,7 @@
 -- The numbers of a list, one after another.
 use Rattle.std.proofs.Common.{◌≡◌, ℕ, ◌≤◌, true, false, List, [], ◌∷◌, ◌++◌, map, length, get_or, drop, sym, refl, ap, ◌∙◌, subst, append_assoc, append-nil, arith}
 use Rattle.std.specs.Int.{is_in_range}
-use Rattle.std.specs.List.{AllByRecursion as All}
+use Rattle.std.specs.List.{AllByRecursion}
 use Rattle.std.proofs.lemmas.Bool.{and_parts, both_ways}
 use Rattle.grammar.specs.Calls.{read_on, pieces}
 use Rattle.grammar.specs.Grammar.{all_within, Numeral, Numbers, spaced}
@@ -12,7 +12,7 @@ use Rattle.lines.proofs.Figures.{number_ends}
 -- `read` are the values so far of the list `bs`, of which `rest` is left
 pub record Left (bs read rest : List ℕ) : Type 0 where
   pub left : List (List ℕ)
-  pub sound : All Numeral left
+  pub sound : AllByRecursion Numeral left
   pub some : 1 ≤ length left
   pub bytes : rest ≡ spaced left
   pub values : map (read_on 0) (pieces [] bs) ≡ read ++ map (read_on 0) left
@@ -20,7 +20,7 @@ pub record Left (bs read rest : List ℕ) : Type 0 where
 pub all_left : (bs : List ℕ) → Numbers 96 bs → Left bs [] bs
 all_left bs h = from h.each h.sound h.some h.bytes
   where
-    from : (ns : List (List ℕ)) → All Numeral ns → 1 ≤ length ns → bs ≡ spaced ns → Left bs [] bs
+    from : (ns : List (List ℕ)) → AllByRecursion Numeral ns → 1 ≤ length ns → bs ≡ spaced ns → Left bs [] bs
     from [] a s e = absurd (omega arith)
     from (n ∷ ns) a s e = record { left = n ∷ ns; sound = a; some = s; bytes = e; values = ap (λ l. map (read_on 0) (pieces [] l)) e ∙ ap (map (read_on 0)) (pieces_spaced n ns a) }
 
@@ -31,7 +31,7 @@ first_digit (d ∷ n) r h = (and_parts (is_in_range 48 57 d) (all_within 48 57 n
 pub never_none : (bs read rest : List ℕ) → Left bs read rest → is_in_range 48 57 (get_or rest 0 0) ≡ false → ⊥
 never_none bs read rest h none = from h.left h.sound h.some h.bytes
   where
-    from : (ns : List (List ℕ)) → All Numeral ns → 1 ≤ length ns → rest ≡ spaced ns → ⊥
+    from : (ns : List (List ℕ)) → AllByRecursion Numeral ns → 1 ≤ length ns → rest ≡ spaced ns → ⊥
     from [] a s e = omega arith
     from (n ∷ []) a s e = both_ways _ none (ap (λ l. is_in_range 48 57 (get_or l 0 0)) (e ∙ sym (append-nil n)) ∙ first_digit n [] a.0)
     from (n ∷ m ∷ ns) a s e = both_ways _ none (ap (λ l. is_in_range 48 57 (get_or l 0 0)) e ∙ first_digit n (32 ∷ spaced (m ∷ ns)) a.0)
@@ -48,7 +48,7 @@ record Step (ds after : List ℕ) (left : List (List ℕ)) : Type 0 where
 step : (bs read rest ds after : List ℕ) (h : Left bs read rest) → Counted rest ds after → Step ds after h.left
 step bs read rest ds after h k = from h.left h.sound h.some h.bytes
   where
-    from : (ns : List (List ℕ)) → All Numeral ns → 1 ≤ length ns → rest ≡ spaced ns → Step ds after ns
+    from : (ns : List (List ℕ)) → AllByRecursion Numeral ns → 1 ≤ length ns → rest ≡ spaced ns → Step ds after ns
     from [] a s e = absurd (omega arith)
     from (n ∷ []) a s e =
         let p = number_ends n ds [] after a.0 k.numeral refl k.stops (append-nil n ∙ sym e ∙ k.parts) in
@@ -70,7 +70,7 @@ left_more bs read rest ds after h k tail e = from (step bs read rest ds after h 
         let more : 1 ≤ length s.more = at_least s.more s.last in
         record {
           left = s.more;
-          sound = (subst (All Numeral) s.is h.sound).1;
+          sound = (subst (AllByRecursion Numeral) s.is h.sound).1;
           some = more;
           bytes = ap (drop 1) (sym e ∙ s.on more);
           values = one_more bs read rest ds after h s;

@@ -1,7 +1,7 @@
 -- What is taken from the arguments of a form that fits its head.
 use Rattle.std.proofs.Common.{◌≡◌, ℕ, suc, ◌+◌, ◌<◌, ◌≤◌, min, Bool, true, false, List, [], ◌∷◌, map, length, get_or, take, drop, Ok, Err, decimal, Result, sym, refl, ap, ◌∙◌, subst, add-zero, arith, MatchResult}
 use lib.ListN.{length-map}
-use Rattle.std.specs.List.{AllByRecursion as All}
+use Rattle.std.specs.List.{AllByRecursion}
 use Rattle.std.proofs.lemmas.List.{take_all, take-map, get_or-take, get_or-map}
 use Rattle.std.proofs.lemmas.Bool.{both_ways}
 use Rattle.grammar.specs.Calls.{Value, one, many, Asked, opens, argument, Held, Small, read_on, pieces, sorts, name}
@@ -35,11 +35,11 @@ values_from (s ∷ ss) xs i = value_at s xs i ∷ values_from ss xs (i + 1)
 
 -- each argument is read back as it is spelled
 
-each_back : (ns : List (List ℕ)) → All Numeral ns → map decimal (map (read_on 0) ns) ≡ ns
+each_back : (ns : List (List ℕ)) → AllByRecursion Numeral ns → map decimal (map (read_on 0) ns) ≡ ns
 each_back [] a = refl
 each_back (n ∷ ns) a = λ i. written_back n a.0 i ∷ each_back ns a.1 i
 
-each_small : (ns : List (List ℕ)) → All Numeral ns → All Small (map (read_on 0) ns)
+each_small : (ns : List (List ℕ)) → AllByRecursion Numeral ns → AllByRecursion Small (map (read_on 0) ns)
 each_small [] a = tt
 each_small (n ∷ ns) a = (small_value n a.0, each_small ns a.1)
 
@@ -50,7 +50,7 @@ record Back (v : Value) (x : Arg) : Type 0 where
 list_back : (bs : List ℕ) → Numbers 96 bs → Back (many (map (read_on 0) (pieces [] bs))) (list bs)
 list_back bs h = from h.each h.sound h.some h.few h.bytes
   where
-    from : (ns : List (List ℕ)) → All Numeral ns → 1 ≤ length ns → length ns ≤ 96 → bs ≡ spaced ns → Back (many (map (read_on 0) (pieces [] bs))) (list bs)
+    from : (ns : List (List ℕ)) → AllByRecursion Numeral ns → 1 ≤ length ns → length ns ≤ 96 → bs ≡ spaced ns → Back (many (map (read_on 0) (pieces [] bs))) (list bs)
     from [] a s f e = absurd (omega arith)
     from (n ∷ ns) a s f e =
         let B : List ℕ → Type 0 = λ l. Back (many (map (read_on 0) (pieces [] l))) (list l) in
@@ -69,9 +69,9 @@ back Several xs i (list bs) e t h = subst (λ y. Back (many (list_of y)) (list b
 -- the values of these sorts spell the arguments that stand from the i-th on
 record Spells (vs : List Value) (xs : List Arg) : Type 0 where
   spells : map argument vs ≡ xs
-  held : All Held vs
+  held : AllByRecursion Held vs
 
-values_back : (ss : List Sort) (all xs : List Arg) (i : ℕ) → ((k : ℕ) → k < length xs → get_or all (i + k) (number []) ≡ get_or xs k (number [])) → map arg_sort xs ≡ ss → All SoundArg xs → Spells (values_from ss all i) xs
+values_back : (ss : List Sort) (all xs : List Arg) (i : ℕ) → ((k : ℕ) → k < length xs → get_or all (i + k) (number []) ≡ get_or xs k (number [])) → map arg_sort xs ≡ ss → AllByRecursion SoundArg xs → Spells (values_from ss all i) xs
 values_back [] all [] i at e a = record { spells = refl; held = tt }
 values_back [] all (x ∷ xs) i at e a = absurd (omega (arith, ap length e))
 values_back (s ∷ ss) all [] i at e a = absurd (omega (arith, ap length e))

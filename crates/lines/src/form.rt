@@ -1,5 +1,5 @@
 //! Reads a line as a form.
-ghost use Rattle.std.specs.List.{AllByRecursion as All};
+ghost use Rattle.std.specs.List.{AllByRecursion};
 ghost use Rattle.lines.specs.Arguments.{Readable};
 ghost use Rattle.lines.specs.Forms.{ReadsForm, Gathers};
 
@@ -35,7 +35,7 @@ pub fn read_form<'a>(line: &'a [u8]) -> Result<(Token<'a>, usize), Fault>
 /// The first five arguments of a line that is a form, and words behind its last argument. No memory is asked for.
 pub fn arguments<'a>(line: &'a [u8]) -> [Part<'a>; MOST_GATHERED]
     ensures gathers { Gathers line.now result }
-    ensures readable { All Readable result }
+    ensures readable { AllByRecursion Readable result }
 {
     let mut parts = [Part::Word(line); MOST_GATHERED];
     let mut reader = Reader::new(line);

@@ -1,6 +1,6 @@
 //! The heads, and of which sorts their arguments are.
 ghost use Rattle.std.specs.Prelude.{◌≡◌, true, map, MatchOption, ◌≢◌};
-ghost use Rattle.std.specs.List.{AllByRecursion as All};
+ghost use Rattle.std.specs.List.{AllByRecursion};
 ghost use Rattle.grammar.specs.Calls.{Misfit};
 ghost use Rattle.grammar.specs.Calls.{name as name_of, sorts as sortsOf};
 ghost use Rattle.grammar.specs.Reads.{openings};
@@ -102,7 +102,7 @@ fn is_of(part: Part, sort: Sort) -> bool
 
 /// The position, from 1, of the first argument that is missing, surplus or of the wrong sort.
 pub fn misfit(args: &[Part], sorts: &[Sort]) -> Option<usize>
-    requires { All SoundPart args.now }
+    requires { AllByRecursion SoundPart args.now }
     ensures { MatchOption result (map part_sort args.now ≡ sorts.now) (Misfit (map part_sort args.now) sorts.now) }
 {
     match (args, sorts) {

@@ -1,6 +1,6 @@
 //! Reads a line as a call, or as the opening of a book.
 ghost use Rattle.std.specs.Prelude.{◌≡◌, false, map, length, MatchResult};
-ghost use Rattle.std.specs.List.{AllByRecursion as All};
+ghost use Rattle.std.specs.List.{AllByRecursion};
 ghost use Rattle.grammar.specs.Calls.{asked, opens};
 ghost use Rattle.grammar.specs.Calls.{sorts as sortsOf};
 ghost use Rattle.grammar.specs.Reads.{has_list, ReadsCall, ReadsOpening};
@@ -38,7 +38,7 @@ fn fitting_head(line: &[u8], opening: bool) -> Result<Head, Fault>
 
 /// The numbers that the first four arguments are, and 0 for what is none.
 fn numbers(parts: &[Part]) -> [u64; 4]
-    requires { (length parts.now ≡ 5) × (All Readable parts.now) }
+    requires { (length parts.now ≡ 5) × (AllByRecursion Readable parts.now) }
     ensures { result ≡ first_numbers (map arg_of parts.now) }
 {
     [
