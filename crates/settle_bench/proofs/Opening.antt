@@ -1,5 +1,5 @@
 -- A book that was opened in full, and the calls up to the close of its day.
-use Rattle.std.proofs.Common.{◌≡◌, ℕ, zero, suc, ◌+◌, ◌*◌, ◌<◌, List, [], map, length, get_or, replicate, Ok, sym, refl, ap, ◌∙◌, subst, arith}
+use Rattle.std.proofs.Common.{◌≡◌, ℕ, zero, suc, ◌+◌, ◌*◌, ◌<◌, List, map, length, get_or, replicate, Ok, sym, refl, ap, ◌∙◌, subst, arith}
 use Rattle.book.specs.Calls.{Answer, Does, closing, filing, issuing}
 use Rattle.book.specs.Opening.{View, station_opened, opened_stations, view_of}
 use Rattle.book.specs.States.{State, nobody, station_at}

@@ -1,12 +1,12 @@
 -- One station more is settled.
-use Rattle.std.proofs.Common.{◌≡◌, ℕ, ◌+◌, ◌-◌, ◌*◌, ◌<◌, ◌≤◌, Bool, true, false, cond, ◌≢◌, ◌⊎◌, List, [], ◌∷◌, length, get_or, set, ℤ, pos, ◌+ℤ◌, Some, None, Ok, Option, sym, refl, ap, ◌∙◌, subst, ⊎_elim, arith}
+use Rattle.std.proofs.Common.{◌≡◌, ℕ, ◌+◌, ◌-◌, ◌*◌, ◌<◌, ◌≤◌, Bool, true, false, cond, ◌≢◌, List, [], ◌∷◌, length, get_or, set, ℤ, pos, ◌+ℤ◌, Some, None, Ok, Option, sym, refl, ap, ◌∙◌, subst, ⊎_elim, arith}
 use Rattle.book.specs.Calls.{Answer, Does, posted, settling, unless}
 use Rattle.book.specs.States.{State, nobody, sheet_at, station_at}
 use Rattle.book.specs.Stations.{moved, settled_at}
 use Rattle.book.specs.declared.station.Action.TheVariants.{Settle}
 use Rattle.book.specs.declared.station.Station.{Station}
 use Rattle.posting.proofs.Accounts.{changed_at, changed_in, length_changed}
-use Rattle.posting.specs.Days.{account_after, among, changed, changed_from, no_account, posted_accounts, standing_charges}
+use Rattle.posting.specs.Days.{account_after, among, changed_from, no_account, posted_accounts, standing_charges}
 use Rattle.posting.specs.Sheets.{Sheet, installed_of}
 use Rattle.posting.specs.declared.account.Account.{Account}
 use Rattle.posting.specs.declared.members.Members.{Members}
