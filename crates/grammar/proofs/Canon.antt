@@ -2,7 +2,7 @@
 use Rattle.std.proofs.Common.{◌≡◌, ℕ, ◌^◌, ◌<◌, true, false, eqb, List, [], ◌∷◌, ◌++◌, map, length, decimal, sym, refl, ap, ◌∙◌, ⊎_elim, append_assoc, append-nil, arith, rules}
 use lib.ListN.{length-map}
 use Rattle.std.specs.Int.{is_in_range}
-use Rattle.std.specs.List.{AllByRecursion as All}
+use Rattle.std.specs.List.{AllByRecursion}
 use Rattle.std.proofs.lemmas.Str.Parse.{IsNumeralModel, numerals_by_fold}
 use Rattle.std.proofs.lemmas.Fmt.{digits_decimal, digits_value-decimal, length-decimal-le, decimal_nonempty, first_decimal, decimal_digit}
 use Rattle.std.proofs.lemmas.Bool.{cases_lt, cond-false, and_parts, ne_eqb, leb-true}
@@ -24,7 +24,7 @@ numeral_of n h = (
   λ e. ⊎_elim (λ z. ap length (decimal_digit n (omega arith))) (λ z. absurd (omega (arith, first_decimal n z (wide n h)))) (cases_lt n 1),
 )
 
-numerals_of : (ns : List ℕ) → All Small ns → All Numeral (map decimal ns)
+numerals_of : (ns : List ℕ) → AllByRecursion Small ns → AllByRecursion Numeral (map decimal ns)
 numerals_of [] h = tt
 numerals_of (n ∷ ns) h = (numeral_of n h.0, numerals_of ns h.1)
 
@@ -38,11 +38,11 @@ sound_argument (many ns) h = record {
   bytes = refl;
 }
 
-sound_arguments : (vs : List Value) → All Held vs → All SoundArg (map argument vs)
+sound_arguments : (vs : List Value) → AllByRecursion Held vs → AllByRecursion SoundArg (map argument vs)
 sound_arguments [] h = tt
 sound_arguments (v ∷ vs) h = (sound_argument v h.0, sound_arguments vs h.1)
 
-pub sound_form : (a : Asked) → Word a.head → All Held a.values → Sound (form a)
+pub sound_form : (a : Asked) → Word a.head → AllByRecursion Held a.values → Sound (form a)
 sound_form a w h = record { head = w; args = sound_arguments a.values h }
 
 -- a list is cut at its spaces
@@ -56,11 +56,11 @@ pieces_digits cur (d ∷ ds) rest h =
     let p = and_parts (is_in_range 48 57 d) (all_within 48 57 ds) h in
     cond-false (eqb d 32) _ _ (no_space d p.0) ∙ pieces_digits (cur ++ d ∷ []) ds rest p.1 ∙ ap (λ l. pieces l rest) (append_assoc cur (d ∷ []) ds)
 
-pub pieces_spaced : (n : List ℕ) (ns : List (List ℕ)) → All Numeral (n ∷ ns) → pieces [] (spaced (n ∷ ns)) ≡ n ∷ ns
+pub pieces_spaced : (n : List ℕ) (ns : List (List ℕ)) → AllByRecursion Numeral (n ∷ ns) → pieces [] (spaced (n ∷ ns)) ≡ n ∷ ns
 pieces_spaced n [] h = ap (pieces []) (sym (append-nil n)) ∙ pieces_digits [] n [] h.0.0
 pieces_spaced n (m ∷ ns) h = pieces_digits [] n (32 ∷ spaced (m ∷ ns)) h.0.0 ∙ ap (λ l. n ∷ l) (pieces_spaced m ns h.1)
 
-read_back : (ns : List ℕ) → All Small ns → map (read_on 0) (map decimal ns) ≡ ns
+read_back : (ns : List ℕ) → AllByRecursion Small ns → map (read_on 0) (map decimal ns) ≡ ns
 read_back [] h = refl
 read_back (n ∷ ns) h = let p = digits_value-decimal own n (wide n h.0) in let q = read_back ns h.1 in cc
 
@@ -70,7 +70,7 @@ value_argument (many []) h = absurd (omega (arith, h.0))
 value_argument (many (n ∷ ns)) h =
     ap (λ l. many (map (read_on 0) l)) (pieces_spaced (decimal n) (map decimal ns) (numerals_of (n ∷ ns) h.2)) ∙ ap many (read_back (n ∷ ns) h.2)
 
-values_back : (vs : List Value) → All Held vs → map value (map argument vs) ≡ vs
+values_back : (vs : List Value) → AllByRecursion Held vs → map value (map argument vs) ≡ vs
 values_back [] h = refl
 values_back (v ∷ vs) h = let p = value_argument v h.0 in let q = values_back vs h.1 in cc
 

@@ -1,6 +1,6 @@
 -- `outcome` finds the form that a line spells, or the longest start of a form.
 use Rattle.std.proofs.Common.{◌≡◌, ℕ, zero, suc, ◌+◌, ◌-◌, ◌<◌, ◌≤◌, true, ◌&&◌, eqb, ltb, List, [], ◌∷◌, ◌++◌, length, get_or, take, IfSome, Some, None, sym, refl, ap, ◌∙◌, subst, append_assoc, append-nil, arith}
-use Rattle.std.specs.List.{flat_map, AllByRecursion as All}
+use Rattle.std.specs.List.{flat_map, AllByRecursion}
 use Rattle.std.specs.Int.{is_in_range as within}
 use Rattle.std.proofs.lemmas.List.{flat_map_more, length_push}
 use Rattle.std.proofs.lemmas.Bool.{cond_both, cond-true, cond-false, eqb-true, ne_eqb, ltb-true, lt-ltb, and_parts, and_from}
@@ -26,7 +26,7 @@ told (done f) = spelled f
 
 abbrev GoodSpot : Spot → Type 0
 GoodSpot (top f) = Sound f
-GoodSpot (inside f ns) = Sound f × All Numeral ns × (length ns < 96)
+GoodSpot (inside f ns) = Sound f × AllByRecursion Numeral ns × (length ns < 96)
 
 abbrev Good : State → Type 0
 Good start = Unit {0}
@@ -36,7 +36,7 @@ Good (digits p ds) = GoodSpot p × Numeral ds
 Good (closed f) = Sound f
 Good (done f) = Sound f
 
-all_push : {X : Type 0} (P : X → Type 0) (xs : List X) (y : X) → All P xs → P y → All P (xs ++ y ∷ [])
+all_push : {X : Type 0} (P : X → Type 0) (xs : List X) (y : X) → AllByRecursion P xs → P y → AllByRecursion P (xs ++ y ∷ [])
 all_push P [] y h k = (k, tt)
 all_push P (x ∷ xs) y h k = (h.0, all_push P xs y h.1 k)
 
@@ -278,7 +278,7 @@ through_number p (d ∷ e ∷ ds) rest h =
     goes (need p) (digits p (d ∷ [])) d (e ∷ ds ++ rest) (cond-true _ _ _ q.0)
     ∙ through_digits p (d ∷ []) (e ∷ ds) rest (omega arith) (λ z. absurd (omega (arith, h.3 z))) q.1 (omega (arith, h.2))
 
-pub through_list : (f : Form) (ns : List (List ℕ)) (n : List ℕ) (ms : List (List ℕ)) (rest : List ℕ) → All Numeral (n ∷ ms) → length ns + length (n ∷ ms) ≤ 96 → outcome (need (inside f ns)) (spaced (n ∷ ms) ++ 41 ∷ rest) ≡ outcome (closed (with_arg f (list (led ns ++ spaced (n ∷ ms))))) rest
+pub through_list : (f : Form) (ns : List (List ℕ)) (n : List ℕ) (ms : List (List ℕ)) (rest : List ℕ) → AllByRecursion Numeral (n ∷ ms) → length ns + length (n ∷ ms) ≤ 96 → outcome (need (inside f ns)) (spaced (n ∷ ms) ++ 41 ∷ rest) ≡ outcome (closed (with_arg f (list (led ns ++ spaced (n ∷ ms))))) rest
 through_list f ns n [] rest h k =
     through_number (inside f ns) n (41 ∷ rest) h.0 ∙ goes (digits (inside f ns) n) (closed (with_arg f (list (led ns ++ n)))) 41 rest refl
 through_list f ns n (m ∷ ms) rest h k =
@@ -301,7 +301,7 @@ pub through_arg : (f : Form) (a : Arg) (rest : List ℕ) → SoundArg a → outc
 through_arg f (number ds) rest h = through_number (top f) ds rest h
 through_arg f (list bs) rest h = listed_arg h.each h.sound h.some h.few h.bytes
   where
-    listed_arg : (ns : List (List ℕ)) → All Numeral ns → 1 ≤ length ns → length ns ≤ 96 → bs ≡ spaced ns → outcome (need (top f)) ((40 ∷ (bs ++ 41 ∷ [])) ++ rest) ≡ outcome (closed (with_arg f (list bs))) rest
+    listed_arg : (ns : List (List ℕ)) → AllByRecursion Numeral ns → 1 ≤ length ns → length ns ≤ 96 → bs ≡ spaced ns → outcome (need (top f)) ((40 ∷ (bs ++ 41 ∷ [])) ++ rest) ≡ outcome (closed (with_arg f (list bs))) rest
     listed_arg [] all some few e = absurd (omega arith)
     listed_arg (n ∷ ms) all some few e =
         let P : List ℕ → Type 0 = λ l. outcome (need (inside f [])) (l ++ 41 ∷ rest) ≡ outcome (closed (with_arg f (list l))) rest in
@@ -320,7 +320,7 @@ pub ready_behind : (f : Form) (a : Arg) → Ready (behind f a) (with_arg f a)
 ready_behind f (number ds) = record { space = refl; close = refl }
 ready_behind f (list bs) = record { space = refl; close = refl }
 
-through_args : (s : State) (f : Form) (more : List Arg) → Ready s f → All SoundArg more → outcome s (flat_map (λ a. 32 ∷ spelled_arg a) more ++ 41 ∷ []) ≡ whole (record { head = f.head; args = f.args ++ more })
+through_args : (s : State) (f : Form) (more : List Arg) → Ready s f → AllByRecursion SoundArg more → outcome s (flat_map (λ a. 32 ∷ spelled_arg a) more ++ 41 ∷ []) ≡ whole (record { head = f.head; args = f.args ++ more })
 through_args s f [] r h = goes s (done f) 41 [] r.close ∙ ap (λ l. whole (record { head = f.head; args = l })) (sym (append-nil f.args))
 through_args s f (a ∷ more) r h =
     let tail : List ℕ = flat_map (λ a. 32 ∷ spelled_arg a) more ++ 41 ∷ [] in

@@ -1,6 +1,6 @@
 -- What a call asks for, and the form that spells it.
 use Rattle.std.specs.Prelude.{◌≡◌, ℕ, ◌+◌, ◌-◌, ◌*◌, ◌^◌, ◌<◌, ◌≤◌, min, cond, List, [], ◌∷◌, ◌++◌, map, length, take, vec_items, codes, decimal, ◌==◌}
-use Rattle.std.specs.List.{AllByRecursion as All}
+use Rattle.std.specs.List.{AllByRecursion}
 use Rattle.grammar.specs.Grammar as grammar
 use Rattle.grammar.specs.Grammar.{Arg, number, list, spaced, spelled}
 use Rattle.grammar.specs.declared.heads.Head.{Head}
@@ -90,7 +90,7 @@ Small n = n < 10 ^ 13
 -- a value that a form holds
 abbrev pub Held : Value → Type 0
 Held (one n) = Small n
-Held (many ns) = (1 ≤ length ns) × (length ns ≤ 96) × All Small ns
+Held (many ns) = (1 ≤ length ns) × (length ns ≤ 96) × AllByRecursion Small ns
 
 abbrev pub argument : Value → Arg
 argument (one n) = number (decimal n)
@@ -115,7 +115,7 @@ value (list bs) = many (map (read_on 0) (pieces [] bs))
 
 -- two lines that are spelled alike ask for the same
 abbrev pub Canonical : Type 0
-Canonical = (a b : Asked) → grammar.Word a.head → grammar.Word b.head → All Held a.values → All Held b.values → spelled (form a) ≡ spelled (form b) → a ≡ b
+Canonical = (a b : Asked) → grammar.Word a.head → grammar.Word b.head → AllByRecursion Held a.values → AllByRecursion Held b.values → spelled (form a) ≡ spelled (form b) → a ≡ b
 
 -- the p-th sort, from 1, is the first that differs or that only one of the lists has
 pub record Misfit (have want : List Sort) (p : ℕ) : Type 0 where

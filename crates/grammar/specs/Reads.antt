@@ -1,6 +1,6 @@
 -- What reading a line answers.
 use Rattle.std.specs.Prelude.{◌≡◌, ℕ, ◌<◌, ◌≤◌, Bool, true, false, not, List, [], ◌∷◌, map, length, Ok, Err, Result}
-use Rattle.std.specs.List.{AllByRecursion as All}
+use Rattle.std.specs.List.{AllByRecursion}
 use Rattle.grammar.specs.Calls.{Asked, asked, opens, name, sorts, Held, form, Misfit}
 use Rattle.grammar.specs.Grammar.{Arg, number, list, Form, Sound, spelled, NotForm}
 use Rattle.grammar.specs.declared.heads.Head.{Head}
@@ -67,7 +67,7 @@ pub data Refused (wanted : Head → Bool) (line : List ℕ) (e : Fault) : Type 0
 -- the line is the one that spells this, and a form holds each value
 pub record Accepted (line : List ℕ) (a : Asked) : Type 0 where
   pub short : length line ≤ most_bytes
-  pub held : All Held a.values
+  pub held : AllByRecursion Held a.values
   pub bytes : spelled (form a) ≡ line
 
 abbrev pub ReadsCall : List ℕ → Result Call Fault → Type 0

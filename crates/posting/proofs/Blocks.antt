@@ -10,7 +10,7 @@ use Rattle.share.specs.declared.generator.Generator.{Generator}
 use Rattle.share.specs.declared.load.Load.{Load}
 use Rattle.std.proofs.lemmas.List.{map_push, take_more_set}
 use Rattle.std.proofs.lemmas.List.Sums.{sum_by-cons}
-use Rattle.std.specs.List.{AllByRecursion as All}
+use Rattle.std.specs.List.{AllByRecursion}
 use Rattle.tariff.specs.declared.query.Query.{Query}
 
 -- one more generator is written
@@ -38,12 +38,12 @@ module _ (s : Sheet) (b : ℕ) where
   actual_small m = omega (arith, actual_from m.first m.count)
 
   -- each generator has some power installed
-  built : (g n : ℕ) → All (λ l. 0 < l.installed) (loads_from s b g n)
+  built : (g n : ℕ) → AllByRecursion (λ l. 0 < l.installed) (loads_from s b g n)
   built g zero = tt
   built g (suc n) = (omega arith, built (g + 1) n)
 
 -- a key's weights for a block do not all vanish
-pub block_alive : (w : Load → Load → ℕ) → ((ls : List Load) → 0 < length ls → All (λ l. 0 < l.installed) ls → 0 < sum (weights w ls))
+pub block_alive : (w : Load → Load → ℕ) → ((ls : List Load) → 0 < length ls → AllByRecursion (λ l. 0 < l.installed) ls → 0 < sum (weights w ls))
     → (s : Sheet) (m : Members) (b : ℕ) → 0 < sum (weights_at w s m b)
 block_alive w alive s m b =
     let some : 0 < length (loads_at s m b) = rw length_loads (omega arith) in

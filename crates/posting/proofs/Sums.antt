@@ -11,7 +11,7 @@ use Rattle.share.specs.declared.load.Load.{Load}
 use Rattle.std.proofs.lemmas.List.{get_or_past, get_or-set_other, get_or-set_same, length-map, take_all}
 use Rattle.std.proofs.lemmas.Int.{ints}
 use Rattle.std.proofs.lemmas.Bool.{cases_lt}
-use Rattle.std.specs.List.{AllByRecursion as All}
+use Rattle.std.specs.List.{AllByRecursion}
 
 -- a sum of small numbers, as the code computes it
 pub sum_computed : (a b : ℤ) → nat_abs a ≤ 9000000000000 → nat_abs b ≤ 64000000000 → to_z w64 (of_z w64 (to_z w64 (of_z w64 a) +ℤ to_z w64 (of_z w64 b))) ≡ a +ℤ b
@@ -88,7 +88,7 @@ all_shares m ws n e h =
     first_shares m ws n (omega arith) ∙ ap (λ xs. part m (sum xs) (sum ws)) (take_all n ws (omega arith)) ∙ part_all m (sum ws) h
 
 -- what the generators of a station get of the 96 blocks adds up to the station's amounts
-pub day_whole : (w : Load → Load → ℕ) → ((ls : List Load) → 0 < length ls → All (λ l. 0 < l.installed) ls → 0 < sum (weights w ls))
+pub day_whole : (w : Load → Load → ℕ) → ((ls : List Load) → 0 < length ls → AllByRecursion (λ l. 0 < l.installed) ls → 0 < sum (weights w ls))
     → (s : Sheet) (m : Members) (amount got : ℕ → ℤ)
     → ((k : ℕ) → k < m.count → got k ≡ sum_to (λ b. get_or (shares (amount b) (weights_at w s m b)) k (pos 0)) 96)
     → sum_to got m.count ≡ sum_to amount 96

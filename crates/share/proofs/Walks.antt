@@ -6,7 +6,7 @@ use Rattle.share.specs.declared.generator.Generator.{Generator}
 use Rattle.share.specs.declared.load.Load.{Load}
 use Rattle.std.proofs.lemmas.List.{get_or-map, get_or-set_same, map_more, length-map, length-set, take_all, take_more_same, take-set}
 use Rattle.std.proofs.lemmas.List.Sums.{sum_by_push, sum_by_more}
-use Rattle.std.specs.List.{AllByRecursion as All}
+use Rattle.std.specs.List.{AllByRecursion}
 
 abbrev pub added : Load → Load → Load
 added t l = record { actual = t.actual + l.actual; capacity = t.capacity + l.capacity; installed = t.installed + l.installed }
@@ -43,11 +43,11 @@ pub weight_small : (w : Load → Load → ℕ) → ((own all : Load) → w own a
 weight_small w bounded g all = omega (arith, bounded g.load all)
 
 -- each generator has some power installed
-built : (gs : List Generator) → All (λ l. 0 < l.installed) (loads gs)
+built : (gs : List Generator) → AllByRecursion (λ l. 0 < l.installed) (loads gs)
 built [] = tt
 built (g ∷ gs) = (omega arith, built gs)
 
-pub some_weight : (w : Load → Load → ℕ) → ((ls : List Load) → 0 < length ls → All (λ l. 0 < l.installed) ls → 0 < sum (weights w ls))
+pub some_weight : (w : Load → Load → ℕ) → ((ls : List Load) → 0 < length ls → AllByRecursion (λ l. 0 < l.installed) ls → 0 < sum (weights w ls))
     → (gs : List Generator) → 0 < length gs → 0 < sum (weights w (loads gs))
 some_weight w alive gs some = alive (loads gs) (rw length-map some) (built gs)
 

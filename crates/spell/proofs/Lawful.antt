@@ -1,6 +1,6 @@
 -- What is written of a call reads back as the call. Assumes nothing.
 use Rattle.std.proofs.Common.{◌≡◌, ℕ, suc, ◌≤◌, true, false, cond, leb, List, [], ◌∷◌, map, length, take, Ok, Err, Result, sym, refl, ap, ◌∙◌, subst, arith}
-use Rattle.std.specs.List.{AllByRecursion as All}
+use Rattle.std.specs.List.{AllByRecursion}
 use Rattle.std.proofs.lemmas.List.{take_at}
 use Rattle.std.proofs.lemmas.Bool.{and_parts, and_from, ltb-true, lt-ltb, le-leb, leb-true}
 use Rattle.units.specs.declared.call.Call.{Call}
@@ -19,11 +19,11 @@ use Rattle.spell.proofs.Refusing.{passed, spelt}
 
 -- `holds` tells what a form holds
 
-small_numbers : (ns : List ℕ) → all_are_small ns ≡ true → All Small ns
+small_numbers : (ns : List ℕ) → all_are_small ns ≡ true → AllByRecursion Small ns
 small_numbers [] h = tt
 small_numbers (n ∷ ns) h = let p = and_parts (small n) (all_are_small ns) h in (ltb-true _ _ p.0, small_numbers ns p.1)
 
-numbers_small : (ns : List ℕ) → All Small ns → all_are_small ns ≡ true
+numbers_small : (ns : List ℕ) → AllByRecursion Small ns → all_are_small ns ≡ true
 numbers_small [] h = refl
 numbers_small (n ∷ ns) h = and_from _ _ (lt-ltb _ _ h.0) (numbers_small ns h.1)
 
@@ -38,15 +38,15 @@ value_held : (v : Value) → Held v → holds v ≡ true
 value_held (one n) h = lt-ltb _ _ h
 value_held (many ns) h = and_from _ _ (le-leb _ _ h.0) (and_from _ _ (le-leb _ _ h.1) (numbers_small ns h.2))
 
-held_values : (vs : List Value) → length (map holds vs) ≤ held_first (map holds vs) → All Held vs
+held_values : (vs : List Value) → length (map holds vs) ≤ held_first (map holds vs) → AllByRecursion Held vs
 held_values [] h = tt
 held_values (v ∷ vs) h =
-    (elim (holds v) as (λ b. holds v ≡ b → suc (length (map holds vs)) ≤ cond b (suc (held_first (map holds vs))) 0 → All Held (v ∷ vs)) [
+    (elim (holds v) as (λ b. holds v ≡ b → suc (length (map holds vs)) ≤ cond b (suc (held_first (map holds vs))) 0 → AllByRecursion Held (v ∷ vs)) [
       | true ↦ λ e k. (held_value v e, held_values vs (omega arith))
       | false ↦ λ e k. absurd (omega arith)
     ]) refl h
 
-values_held : (vs : List Value) → All Held vs → length (map holds vs) ≤ held_first (map holds vs)
+values_held : (vs : List Value) → AllByRecursion Held vs → length (map holds vs) ≤ held_first (map holds vs)
 values_held [] h = omega arith
 values_held (v ∷ vs) h =
     let e : holds v ≡ true = value_held v h.0 in

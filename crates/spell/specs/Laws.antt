@@ -2,7 +2,7 @@
 --
 -- That two calls are the same is said of what they ask for: of a list's memory nothing is said.
 use Rattle.std.specs.Prelude.{◌≡◌, ℕ, ◌≤◌, true, List, map, length, take, Ok, Err, Result}
-use Rattle.std.specs.List.{AllByRecursion as All}
+use Rattle.std.specs.List.{AllByRecursion}
 use Rattle.units.specs.declared.call.Call.{Call}
 use Rattle.units.specs.declared.call.Opening.{Opening}
 use Rattle.units.specs.declared.fault.Fault.{Fault}
@@ -28,7 +28,7 @@ ReadBack X asks Reads = (x : X) (page after : List ℕ) (n : ℕ) → wrote (Ok 
 
 -- a form holds each argument, and the line is not too long
 pub record FitsLine (a : Asked) : Type 0 where
-  pub held : All Held a.values
+  pub held : AllByRecursion Held a.values
   pub short : length (spelled (form a)) ≤ most_bytes
 
 -- x has a line, which is written on every page that is long enough, and no other line reads as x
