@@ -3,6 +3,7 @@
 
 use quoting::report::report;
 use std::io;
+use std::process::ExitCode;
 
 fn answer(rt: &HostRuntime) -> anyhow::Result<()> {
     let text = io::read_to_string(rt.alloc(), rt.stdin())?;
@@ -12,10 +13,12 @@ fn answer(rt: &HostRuntime) -> anyhow::Result<()> {
 }
 
 /// A request that is refused gets one line on standard error, and status 1.
-fn main(rt: HostRuntime) -> anyhow::Result<()> {
-    let outcome = answer(&rt);
-    if let Err(error) = &outcome {
-        eprintln!(rt; "{error}")?;
+fn main(rt: HostRuntime) -> io::Result<ExitCode> {
+    match answer(&rt) {
+        Ok(()) => Ok(ExitCode::SUCCESS),
+        Err(error) => {
+            eprintln!(rt; "{error}")?;
+            Ok(ExitCode::FAILURE)
+        }
     }
-    outcome
 }
