@@ -1,4 +1,4 @@
-//! Settles full books, so that Rust can time it: `settle_full_books` is the one function that crosses.
+//! Settles full books, so that Rust can time it: `settle_full_books` is the one function that crosses, exported by `settle_bench_c`.
 #![tactic(auto)]
 
 ghost use Rattle.book.specs.Sheets.{sheet_in};
@@ -236,8 +236,7 @@ fn run(
 
 /// Opens `books` full books on the caller's numbers, settles each where `settle` says so, and reports the last.
 /// Whether that was done: not where a page is too short, a number is refused, or there is no memory or no book.
-#[unsafe(no_mangle)]
-pub extern "C" fn settle_full_books<'a>(
+pub fn settle_full_books<'a>(
     heap: Global,
     installed: &'a [u32],
     schedules: &'a [u32],
