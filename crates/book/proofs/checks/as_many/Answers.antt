@@ -1,6 +1,5 @@
 use Rattle.std.proofs.Common.{rules}
 use Rattle.book.proofs.checks.as_many.Goals as goal
-use Rattle.book.specs.Causes.{value_count}
 
 pub returns-then-given-needed : goal.returns-then-given-needed
 returns-then-given-needed c = search rules

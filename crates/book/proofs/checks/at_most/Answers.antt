@@ -1,6 +1,5 @@
 use Rattle.std.proofs.Common.{rules}
 use Rattle.book.proofs.checks.at_most.Goals as goal
-use Rattle.book.specs.Causes.{high_value}
 
 pub returns-then-value-from : goal.returns-then-value-from
 returns-then-value-from c = search rules

@@ -1,6 +1,5 @@
 use Rattle.std.proofs.Common.{rules}
 use Rattle.book.proofs.checks.sound_amount.Goals as goal
-use Rattle.book.specs.Causes.{bad_amount}
 
 pub returns-then-amount-eq0 : goal.returns-then-amount-eq0
 returns-then-amount-eq0 c = search rules

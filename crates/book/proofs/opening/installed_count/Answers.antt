@@ -1,6 +1,5 @@
 use Rattle.std.proofs.Common.{rules}
 use Rattle.book.proofs.opening.installed_count.Goals as goal
-use Rattle.book.specs.Opening.{installed_count_fault}
 
 pub returns-then-given-needed : goal.returns-then-given-needed
 returns-then-given-needed c = search rules

@@ -1,7 +1,5 @@
 use Rattle.std.proofs.Common.{rules}
 use Rattle.book.proofs.book.Book.admit.Goals as goal
-use Rattle.book.specs.States.{admission}
-use Rattle.book.specs.Stations.{phase_after}
 
 pub returns-in_err-station : goal.returns-in_err-station
 returns-in_err-station g c = search rules

@@ -1,8 +1,6 @@
 use Rattle.std.proofs.Common.{rules}
 use borrow.Author.Rules.{get_or_read}
 use Rattle.book.proofs.book.Book.admit_generator.Goals as goal
-use Rattle.book.specs.States.{generator_admission}
-use Rattle.book.specs.Stations.{phase_after}
 
 pub returns-in_err-t : goal.returns-in_err-t
 returns-in_err-t g c = search rules

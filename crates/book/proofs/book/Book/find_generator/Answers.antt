@@ -2,7 +2,6 @@ use Rattle.std.proofs.Common.{◌<◌, arith, rules}
 use Rattle.book.proofs.Owners.{owner_at}
 use Rattle.book.proofs.book.Book.find_generator.Goals as goal
 use Rattle.book.specs.Sound.{generators_of}
-use Rattle.book.specs.States.{generator_presence}
 
 pub returns-in_err-fit : goal.returns-in_err-fit
 returns-in_err-fit g c = search rules

@@ -1,6 +1,5 @@
 use Rattle.std.proofs.Common.{rules}
 use Rattle.book.proofs.book.Book.find_station.Goals as goal
-use Rattle.book.specs.States.{presence}
 
 pub returns-in_err-fit : goal.returns-in_err-fit
 returns-in_err-fit g c = search rules

@@ -1,6 +1,5 @@
 use Rattle.std.proofs.Common.{rules}
 use Rattle.book.proofs.book.admission.long_enough.Goals as goal
-use Rattle.book.specs.States.{short_page}
 
 pub returns-then-length-needed : goal.returns-then-length-needed
 returns-then-length-needed c = search rules

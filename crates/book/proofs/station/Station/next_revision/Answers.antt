@@ -1,6 +1,5 @@
 use Rattle.std.proofs.Common.{rules}
 use Rattle.book.proofs.station.Station.next_revision.Goals as goal
-use Rattle.book.specs.Causes.{used_slot, wrong_number}
 
 pub returns-then-number-next : goal.returns-then-number-next
 returns-then-number-next c = search rules
