@@ -87,9 +87,6 @@ abbrev pub drawn : ℕ → Station → Station
 drawn x s = with_net (s.net +ℤ pos x) s
 
 -- the phase that an action leads to
-abbrev pub phase_after : Action → Station → Phase
-phase_after a s = unwrap_or (moves s.phase a) s.phase
-
 abbrev pub moved : Action → Station → Station
 moved a s = in_phase (unwrap_or (moves s.phase a) s.phase) s
 

@@ -218,9 +218,6 @@ front_is n bs = let z : n - 0 ≡ n = omega arith in ap (λ k. take k bs) z
 at_space : (f : Form) (bs : List ℕ) → outcome (closed f) (32 ∷ bs) ≡ outcome (need (top f)) bs
 at_space f bs = refl
 
-at_close : (f : Form) (b : ℕ) (bs : List ℕ) → b ≡ 41 → outcome (closed f) (b ∷ bs) ≡ outcome (done f) bs
-at_close f b bs e = subst (λ c. outcome (closed f) (c ∷ bs) ≡ outcome (done f) bs) (sym e) refl
-
 -- what is left after some of what was left
 pub ends_of : (front rest line : List ℕ) → front ++ rest ≡ line → (length rest ≤ length line) × Ends line rest
 ends_of front rest line e =
