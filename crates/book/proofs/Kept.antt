@@ -20,6 +20,7 @@ use Rattle.std.proofs.lemmas.Bool.{both_ways, cases_lt, cases_Bool, cond-false, 
 use Rattle.tariff.specs.declared.query.Query.{Query}
 use Rattle.units.specs.Bits.{has, last_below, last_of, count_of}
 use Rattle.units.specs.declared.fault.Fault.{Fault}
+use Rattle.units.specs.declared.fault.Page.TheVariants.{Schedules}
 
 -- an accepted call has no cause, and leaves what it computes
 taken_none : (c : Option Fault) (s e : State) → Taken (unless c s e) → c ≡ None
@@ -39,7 +40,7 @@ admitted : (a : Action) (t : ℕ) (s : State) → admission a t s ≡ None → (
 admitted a t s h =
     let there = (first_none (presence t s) _ h).0 in
     let pages = first_none (short_pages s) _ there in
-    let one = (first_none (short_page 1 (length s.schedules) (96 * length s.stations)) _ pages.0).0 in
+    let one = (first_none (short_page Schedules (length s.schedules) (96 * length s.stations)) _ pages.0).0 in
     let station = (first_none (no_station t s) _ pages.1).0 in
     (ltb-false _ _ (when_none (ltb (length s.schedules) (96 * length s.stations)) _ one), leb-false _ _ (when_none (leb (length s.stations) t) _ station))
 
@@ -83,7 +84,7 @@ passed t k n vs s h =
     let c0 = first_none (admission Revise t s) _ none in
     let c1 = first_none (bad_notice n o) _ c0.1 in
     let c2 = first_none (value_count (length vs) (93 - n)) _ c1.1 in
-    let c3 = first_none (high_values 0 6400000 vs) _ c2.1 in
+    let c3 = first_none (high_values 6400000 vs) _ c2.1 in
     let c4 = first_none (wrong_number k (count_of x.slots.bits)) _ c3.1 in
     let c5 = first_none (used_slot (unwrap_or o 0) (last_of x.slots.bits)) [] c4.1 in
     let at = admitted Revise t s c0.0 in

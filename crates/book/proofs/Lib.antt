@@ -6,6 +6,7 @@ mod OpeningPages
 mod OpeningStations
 mod Owners
 mod Places
+mod Positions
 mod Runs
 mod Shares
 mod Values

@@ -9,21 +9,20 @@ absent None true e = sym e
 absent (Some x) true e = refl
 absent (Some x) false e = sym e
 
-module _ (rs : List (Option ℕ)) (b first count k : ℕ) (within : k < count)
-    (so_far : missing_in rs None b first count ≡ missing_in rs None b (first + k) (count - k)) where
+-- the generators from `first` to before `end`, and the search is at g
+module _ (rs : List (Option ℕ)) (b first count g : ℕ) (within : g < first + count)
+    (so_far : missing_in rs None b first count ≡ missing_in rs None b g (first + count - g)) where
   step : missing_in rs None b first count
-      ≡ cond (missing_at rs None (first + k) b) (Some (record { generator = first + k; block = b })) (missing_in rs None b (first + (k + 1)) (count - (k + 1)))
+      ≡ cond (missing_at rs None g b) (Some (record { generator = g; block = b })) (missing_in rs None b (g + 1) (first + count - (g + 1)))
   step =
-      let rest : count - k ≡ suc (count - (k + 1)) = omega arith in
-      let next : first + k + 1 ≡ first + (k + 1) = omega arith in
-      so_far ∙ ap (missing_in rs None b (first + k)) rest
-      ∙ ap (λ g. cond (missing_at rs None (first + k) b) (Some (record { generator = first + k; block = b })) (missing_in rs None b g (count - (k + 1)))) next
+      let rest : first + count - g ≡ suc (first + count - (g + 1)) = omega arith in
+      so_far ∙ ap (missing_in rs None b g) rest
 
-  pub found : is_some (get_or rs (96 * (first + k) + b) None) ≡ false → missing_in rs None b first count ≡ Some (record { generator = first + k; block = b })
-  found e = step ∙ cond-true _ _ _ (absent (get_or rs (96 * (first + k) + b) None) false e)
+  pub found : is_some (get_or rs (96 * g + b) None) ≡ false → missing_in rs None b first count ≡ Some (record { generator = g; block = b })
+  found e = step ∙ cond-true _ _ _ (absent (get_or rs (96 * g + b) None) false e)
 
-  pub passed : is_some (get_or rs (96 * (first + k) + b) None) ≡ true → missing_in rs None b first count ≡ missing_in rs None b (first + (k + 1)) (count - (k + 1))
-  passed e = step ∙ cond-false _ _ _ (absent (get_or rs (96 * (first + k) + b) None) true e)
+  pub passed : is_some (get_or rs (96 * g + b) None) ≡ true → missing_in rs None b first count ≡ missing_in rs None b (g + 1) (first + count - (g + 1))
+  passed e = step ∙ cond-false _ _ _ (absent (get_or rs (96 * g + b) None) true e)
 
-pub ended : (rs : List (Option ℕ)) (b first count k : ℕ) → count ≤ k → missing_in rs None b first count ≡ missing_in rs None b (first + k) (count - k) → missing_in rs None b first count ≡ None
-ended rs b first count k h so_far = let none : count - k ≡ 0 = omega arith in so_far ∙ ap (missing_in rs None b (first + k)) none
+pub ended : (rs : List (Option ℕ)) (b first count g : ℕ) → first + count ≤ g → missing_in rs None b first count ≡ missing_in rs None b g (first + count - g) → missing_in rs None b first count ≡ None
+ended rs b first count g h so_far = let none : first + count - g ≡ 0 = omega arith in so_far ∙ ap (missing_in rs None b g) none

@@ -52,11 +52,12 @@ module _ (kws : List ℕ) (g : ℕ) (h : g < length kws) where
       ∙ ap (λ vs. spliced 0 vs p) (flat_map_more all_day [] (take g kws) kw ∙ ap (flat_map all_day) (sym (take_more kws g 0 h)))
 
   -- the account of one more generator
-  pub accounts_more : (p page : List Account) → g < length p → page ≡ spliced 0 (map opened_account (take g kws)) p
-      → set page g (opened_account (get_or kws g 0)) ≡ spliced 0 (map opened_account (take (g + 1) kws)) p
-  accounts_more p page room e =
+  pub accounts_more : (p page : List Account) (x : Account) → g < length p → x ≡ opened_account (get_or kws g 0) → page ≡ spliced 0 (map opened_account (take g kws)) p
+      → set page g x ≡ spliced 0 (map opened_account (take (g + 1) kws)) p
+  accounts_more p page x room is e =
       let far : g ≡ length (map opened_account (take g kws)) = omega (arith, length-map (take g kws) opened_account, so_many) in
-      ap (λ xs. set xs g (opened_account (get_or kws g 0))) e
+      ap (set page g) is
+      ∙ ap (λ xs. set xs g (opened_account (get_or kws g 0))) e
       ∙ spliced_set (map opened_account (take g kws)) p (opened_account (get_or kws g 0)) g far room
       ∙ ap (λ vs. spliced 0 vs p) (sym (map_more opened_account kws g 0 h))
 

@@ -1,9 +1,11 @@
 -- Stations that have just been opened.
 use Rattle.std.proofs.Common.{◌≡◌, ℕ, zero, suc, ◌+◌, ◌<◌, List, [], ◌∷◌, map, length, get_or, take, pos, sym, refl, ap, ◌∙◌, arith, pow_pos}
 use Rattle.book.specs.Opening.{generators_in, station_opened, opened_stations, View, view_of}
-use Rattle.book.specs.Sound.{Covered, Each, generators_of, InDay, InSlots, Laid, Light, nets, slots_of}
+use Rattle.book.specs.Sound.{Covered, generators_of, InDay, InSlots, Laid, Light, nets, slots_of}
 use Rattle.book.specs.declared.station.Station.{Station}
 use Rattle.std.proofs.lemmas.Int.{ints}
+use Rattle.std.proofs.lemmas.List.Sums.{sum_by-cons}
+use Rattle.std.specs.List.{All}
 
 heads : {X : Type 0} {x y : X} {xs ys : List X} → x ∷ xs ≡ y ∷ ys → x ≡ y
 heads e = cc
@@ -16,7 +18,7 @@ no_more e = let z : ◌≡◌ {A = ℕ} 0 1 = cc in omega arith
 
 -- what holds of a station just opened holds of each
 pub each_opened : (P : Station → Type 0) → ((s : Station) (n kind count : ℕ) → view_of s ≡ station_opened n kind count → P s)
-    → (ss : List Station) (n : ℕ) (kinds counts : List ℕ) → map view_of ss ≡ opened_stations n kinds counts → Each P ss
+    → (ss : List Station) (n : ℕ) (kinds counts : List ℕ) → map view_of ss ≡ opened_stations n kinds counts → All P ss
 each_opened P f [] n kinds counts e k d h = absurd (omega arith)
 each_opened P f (s ∷ ss) n [] counts e k d h = absurd (no_more e)
 each_opened P f (s ∷ ss) n (kind ∷ kinds) [] e k d h = absurd (no_more e)
@@ -30,6 +32,7 @@ pub record Sums (ss : List Station) (kinds counts : List ℕ) : Type 0 where
   pub even : nets ss ≡ pos 0
 
 pub sums_opened : (ss : List Station) (n : ℕ) (kinds counts : List ℕ) → length counts ≡ length kinds → map view_of ss ≡ opened_stations n kinds counts → Sums ss kinds counts
+unfolding generators_in
 sums_opened [] n [] [] same e = record { stations = refl; generators = refl; even = refl }
 sums_opened [] n [] (count ∷ counts) same e = absurd (omega arith)
 sums_opened [] n (kind ∷ kinds) [] same e = absurd (omega arith)
@@ -42,7 +45,7 @@ sums_opened (s ∷ ss) n (kind ∷ kinds) (count ∷ counts) same e =
     let net : s.net ≡ pos 0 = ap (λ (v : View). v.net) (heads e) in
     record {
       stations = omega (arith, rest.stations);
-      generators = omega (arith, has, rest.generators);
+      generators = omega (arith, has, rest.generators, sum_by-cons (λ (x : Station). x.members.count) s ss, sum_by-cons (λ (x : ℕ). x) count counts);
       even = omega (arith, ints, net, rest.even);
     }
 
@@ -56,7 +59,7 @@ laid_from (s ∷ ss) n (kind ∷ kinds) (count ∷ counts) e zero d h =
     omega (arith, begins)
 laid_from (s ∷ ss) n (kind ∷ kinds) (count ∷ counts) e (suc k) d h =
     let has : s.members.count ≡ count = ap (λ (v : View). v.count) (heads e) in
-    omega (arith, has, laid_from ss (n + count) kinds counts (tails e) k d (omega arith))
+    omega (arith, has, laid_from ss (n + count) kinds counts (tails e) k d (omega arith), sum_by-cons (λ (x : Station). x.members.count) s (take k ss))
 
 pub laid_opened : (ss : List Station) (kinds counts : List ℕ) → map view_of ss ≡ opened_stations 0 kinds counts → Laid ss
 laid_opened ss kinds counts e k d h = omega (arith, laid_from ss 0 kinds counts e k d h)

@@ -1,79 +1,66 @@
 -- The station of a generator.
-use Rattle.std.proofs.Common.{◌≡◌, ℕ, suc, ◌+◌, ◌-◌, ◌<◌, ◌≤◌, cond, ltb, List, [], ◌∷◌, length, get_or, take, drop, sym, ap, ◌∙◌, subst, ⊎_elim, suc-le-suc, add-one, arith, drop_of_length-le, drop-cons}
+use Rattle.std.proofs.Common.{◌≡◌, ℕ, zero, suc, ◌+◌, ◌<◌, ◌≤◌, false, List, [], ◌∷◌, length, get_or, take, Some, None, Option, sym, ap, ◌∙◌, add-one, arith}
+use Rattle.book.proofs.Places.{end_at, end_within}
+use Rattle.book.proofs.Positions.{nowhere, somewhere}
+use Rattle.book.specs.Refusals.{Checks, first}
 use Rattle.book.specs.Sound.{generators_of, Laid}
-use Rattle.book.specs.States.{owner_from, nobody}
+use Rattle.book.specs.States.{Fit, generator_presence, no_generator, nobody, Owner, reaches, short_pages, State}
 use Rattle.book.specs.declared.station.Station.{Station}
-use Rattle.std.proofs.lemmas.Bool.{cases_lt, cond-true, cond-false, lt-ltb, le-ltb}
+use Rattle.std.proofs.lemmas.Bool.{cond-false, cond-true, le-leb, lt-leb, ltb-false, ltb-true}
+use Rattle.std.proofs.lemmas.List.{take_all}
+use Rattle.std.proofs.lemmas.List.Quantifiers.{position-Some}
+use Rattle.std.specs.List.{position}
+use Rattle.std.specs.Option.{ok_or}
+use Rattle.units.specs.declared.fault.Fault.TheVariants.{NoSuchNumber}
 
--- the stations' generators follow each other from the number n on
-LaidFrom : ℕ → List Station → Type 0
-LaidFrom n ss = (k : ℕ) (d : Station) → k < length ss → (get_or ss k d).members.first ≡ n + generators_of (take k ss)
+-- a station that the search has passed ends before the generator
+ends : (g : ℕ) (x : Station) → reaches g x ≡ false → x.members.first + x.members.count ≤ g
+ends g x e = ltb-false _ _ e
 
-later : (n : ℕ) (s : Station) (ss : List Station) → LaidFrom n (s ∷ ss) → LaidFrom (n + s.members.count) ss
-unfolding LaidFrom
-later n s ss laid k d h = omega (arith, laid (suc k) d (suc-le-suc h))
-
--- the station r at the end of the search has the generator
-pub record Has (g : ℕ) (ss : List Station) (t r : ℕ) : Type 0 where
-  pub from : t ≤ r
-  pub within : r < t + length ss
-  pub low : (get_or ss (r - t) nobody).members.first ≤ g
-  pub high : g < (get_or ss (r - t) nobody).members.first + (get_or ss (r - t) nobody).members.count
-
-next : (g : ℕ) (s : Station) (ss : List Station) (t r : ℕ) → Has g ss (t + 1) r → Has g (s ∷ ss) t r
-next g s ss t r h =
-    let e : r - t ≡ suc (r - (t + 1)) = omega (arith, h.from) in
-    let there : get_or (s ∷ ss) (r - t) nobody ≡ get_or ss (r - (t + 1)) nobody = ap (λ k. get_or (s ∷ ss) k nobody) e in
-    record {
-      from = omega (arith, h.from);
-      within = omega (arith, h.within);
-      low = subst (λ (x : Station). x.members.first ≤ g) (sym there) h.low;
-      high = subst (λ (x : Station). g < x.members.first + x.members.count) (sym there) h.high;
-    }
-
-owner_from_lem : (n g : ℕ) (ss : List Station) (t : ℕ) → LaidFrom n ss → n ≤ g → g < n + generators_of ss → Has g ss t (owner_from t ss g)
-unfolding LaidFrom
-owner_from_lem n g [] t laid low high = absurd (omega arith)
-owner_from_lem n g (s ∷ ss) t laid low high =
-    let first : s.members.first ≡ n = omega (arith, laid 0 s (omega arith)) in
-    ⊎_elim
-    (λ (h : g < s.members.first + s.members.count).
-    let none : t - t ≡ 0 = omega arith in
-    let there : get_or (s ∷ ss) (t - t) nobody ≡ s = ap (λ k. get_or (s ∷ ss) k nobody) none in
-    subst (λ (r : ℕ). Has g (s ∷ ss) t r) (sym (cond-true (ltb g (s.members.first + s.members.count)) t (owner_from (t + 1) ss g) (lt-ltb _ _ h)))
-    (record { from = omega arith; within = omega arith; low = subst (λ (x : Station). x.members.first ≤ g) (sym there) (omega arith); high = subst (λ (x : Station). g < x.members.first + x.members.count) (sym there) h }))
-    (λ (h : s.members.first + s.members.count ≤ g).
-    subst (λ (r : ℕ). Has g (s ∷ ss) t r) (sym (cond-false (ltb g (s.members.first + s.members.count)) t (owner_from (t + 1) ss g) (le-ltb _ _ h)))
-    (next g s ss t _ (owner_from_lem (n + s.members.count) g ss (t + 1) (later n s ss laid) (omega arith) (omega arith))))
-    (cases_lt g (s.members.first + s.members.count))
-
-pub owner_has : (g : ℕ) (ss : List Station) → Laid ss → g < generators_of ss → Has g ss 0 (owner_from 0 ss g)
-unfolding LaidFrom
-owner_has g ss laid high = owner_from_lem 0 g ss 0 (λ k d h. omega (arith, laid k d h)) (omega arith) (omega arith)
-
--- one step of the search through the stations
-module _ (g : ℕ) (ss : List Station) (i : ℕ) (d : Station) (within : i < length ss) (so_far : owner_from 0 ss g ≡ owner_from i (drop i ss) g) where
-  step : owner_from 0 ss g ≡ cond (ltb g ((get_or ss i d).members.first + (get_or ss i d).members.count)) i (owner_from (i + 1) (drop (i + 1) ss) g)
-  step =
-      let front : drop i ss ≡ get_or ss i d ∷ drop (i + 1) ss = rw add-one (drop-cons ss i d within) in
-      so_far ∙ ap (λ xs. owner_from i xs g) front
-
-  pub found : (s : Station) → s ≡ get_or ss i d → g < s.members.first + s.members.count → i ≡ owner_from 0 ss g
-  found s e h = sym (step ∙ ap (λ (x : Station). cond (ltb g (x.members.first + x.members.count)) i (owner_from (i + 1) (drop (i + 1) ss) g)) (sym e) ∙ cond-true _ _ _ (lt-ltb _ _ h))
-
-  pub passed : (s : Station) → s ≡ get_or ss i d → s.members.first + s.members.count ≤ g → owner_from 0 ss g ≡ owner_from (i + 1) (drop (i + 1) ss) g
-  passed s e h = step ∙ ap (λ (x : Station). cond (ltb g (x.members.first + x.members.count)) i (owner_from (i + 1) (drop (i + 1) ss) g)) (sym e) ∙ cond-false _ _ _ (le-ltb _ _ h)
-
--- where no station has it, the search ends behind the last
-pub ended : (g : ℕ) (ss : List Station) (i : ℕ) → i ≡ length ss → owner_from 0 ss g ≡ owner_from i (drop i ss) g → length ss ≡ owner_from 0 ss g
-ended g ss i e so_far = sym (so_far ∙ ap (λ k. owner_from k (drop k ss) g) e ∙ ap (λ xs. owner_from (length ss) xs g) (drop_of_length-le ss (omega arith)))
+-- where no station reaches it, there is no such generator
+owner_none : (g : ℕ) (ss : List Station) → Laid ss → position (reaches g) ss ≡ None → generators_of ss ≤ g
+owner_none g [] laid e = omega arith
+owner_none g (x ∷ ss) laid e =
+    let all = x ∷ ss in
+    let last = length ss in
+    let h : last < length all = omega arith in
+    let passed = ends g (get_or all last nobody) (nowhere (reaches g) all e last nobody h) in
+    let whole : take (last + 1) all ≡ all = take_all (last + 1) all (omega arith) in
+    omega (arith, passed, end_at all last nobody h laid, ap generators_of whole)
 
 -- the station that the search found has the generator
-pub owner_at : (g : ℕ) (ss : List Station) (r : ℕ) → Laid ss → g < generators_of ss → r ≡ owner_from 0 ss g
-    → (r < length ss) × ((get_or ss r nobody).members.first ≤ g) × (g < (get_or ss r nobody).members.first + (get_or ss r nobody).members.count)
-owner_at g ss r laid high e =
-    let h : Has g ss 0 r = subst (λ (x : ℕ). Has g ss 0 x) (sym e) (owner_has g ss laid high) in
-    let same : r - 0 ≡ r = omega arith in
-    let low : (get_or ss r nobody).members.first ≤ g = subst (λ (k : ℕ). (get_or ss k nobody).members.first ≤ g) same h.low in
-    let top : g < (get_or ss r nobody).members.first + (get_or ss r nobody).members.count = subst (λ (k : ℕ). g < (get_or ss k nobody).members.first + (get_or ss k nobody).members.count) same h.high in
-    (omega (arith, h.within), low, top)
+owner_some : (g : ℕ) (s : State) (t : ℕ) → Fit s → Laid s.stations → position (reaches g) s.stations ≡ Some t → Owner g s t
+owner_some g s t fit laid e =
+    let ss = s.stations in
+    let at = position-Some (reaches g) ss t nobody e in
+    let high : g < (get_or ss t nobody).members.first + (get_or ss t nobody).members.count = ltb-true _ _ at.1 in
+    record {
+      fit = fit;
+      there = omega (arith, high, end_within ss t nobody at.0 laid);
+      within = at.0;
+      low = low t at.0 at.2;
+      high = high;
+      is = somewhere (reaches g) ss t e;
+    }
+  where
+    low : (t : ℕ) → t < length s.stations → ((k : ℕ) → k < t → reaches g (get_or s.stations k nobody) ≡ false) → (get_or s.stations t nobody).members.first ≤ g
+    low zero h before = omega (arith, laid 0 nobody h)
+    low (suc t) h before =
+        let passed = ends g (get_or s.stations t nobody) (before t (omega arith)) in
+        let first = laid (suc t) nobody h in
+        let end : (get_or s.stations t nobody).members.first + (get_or s.stations t nobody).members.count ≡ generators_of (take (suc t) s.stations) =
+        rw add-one at (end_at s.stations t nobody (omega arith) laid) in
+        omega (arith, passed, first, end)
+
+-- the search, where the pages fit
+pub owner_checked : (g : ℕ) (s : State) (o : Option ℕ) → short_pages s ≡ None → Fit s → Laid s.stations → o ≡ position (reaches g) s.stations
+    → Checks (generator_presence g s) (Owner g s) (ok_or o (NoSuchNumber g))
+owner_checked g s None clear fit laid e =
+    ap (λ c. first (c ∷ no_generator g s ∷ [])) clear
+    ∙ ap (λ c. first (c ∷ [])) (cond-true _ (Some (NoSuchNumber g)) None (le-leb _ _ (owner_none g s.stations laid (sym e))))
+owner_checked g s (Some t) clear fit laid e =
+    let own = owner_some g s t fit laid (sym e) in (
+      ap (λ c. first (c ∷ no_generator g s ∷ [])) clear
+          ∙ ap (λ c. first (c ∷ [])) (cond-false _ (Some (NoSuchNumber g)) None (lt-leb _ _ own.there)),
+      own,
+    )

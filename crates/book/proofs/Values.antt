@@ -1,26 +1,24 @@
 -- A search for the first value above a limit, value by value.
-use Rattle.std.proofs.Common.{◌≡◌, ℕ, ◌+◌, ◌<◌, ◌≤◌, cond, ltb, List, [], ◌∷◌, ◌++◌, length, get_or, take, drop, set, Some, None, sym, ap, ◌∙◌, add-one, drop_of_length-le, drop-cons}
-use Rattle.book.specs.Causes.{high_values}
-use Rattle.std.proofs.lemmas.List.{take_more, take_more_set}
-use Rattle.std.proofs.lemmas.Bool.{cond-true, cond-false, le-ltb, lt-ltb}
+use Rattle.std.proofs.Common.{◌≡◌, ℕ, ◌<◌, ◌≤◌, true, false, ltb, List, length, get_or, Some, None, sym, ap, ◌∙◌, ⊎_elim, arith}
+use Rattle.book.proofs.Positions.{first_at, none_at}
+use Rattle.book.specs.Causes.{high_value, high_values}
+use Rattle.std.specs.Option.{option_map}
+use Rattle.std.proofs.lemmas.Bool.{cond-false, cond-true, cases_Bool, le-ltb}
+use Rattle.units.specs.declared.fault.Fault.{Fault}
 use Rattle.units.specs.declared.fault.Fault.TheVariants.{HighValue}
 
-module _ (limit : ℕ) (vs : List ℕ) (i : ℕ) (within : i < length vs) (so_far : high_values 0 limit vs ≡ high_values i limit (drop i vs)) where
-  step : high_values 0 limit vs ≡ cond (ltb limit (get_or vs i 0)) (Some (HighValue i limit)) (high_values (i + 1) limit (drop (i + 1) vs))
-  step =
-      let front : drop i vs ≡ get_or vs i 0 ∷ drop (i + 1) vs = rw add-one (drop-cons vs i 0 within) in
-      so_far ∙ ap (high_values i limit) front
+module _ (limit : ℕ) (vs : List ℕ) where
+  -- the value at i is the first
+  pub found : (i : ℕ) (f : Fault) → i < length vs → ((k : ℕ) → k < i → get_or vs k 0 ≤ limit) → high_value i limit (get_or vs i 0) ≡ Some f → high_values limit vs ≡ Some f
+  found i f h before e = ⊎_elim
+      (λ (t : ltb limit (get_or vs i 0) ≡ true).
+      ap (option_map (λ k. HighValue k limit)) (first_at (ltb limit) vs i 0 h (λ k l. le-ltb _ _ (before k l)) t)
+      ∙ sym (cond-true _ (Some (HighValue i limit)) None t) ∙ e)
+      (λ (t : ltb limit (get_or vs i 0) ≡ false).
+      let none : None ≡ Some f = sym (cond-false _ (Some (HighValue i limit)) None t) ∙ e in
+      let z : ◌≡◌ {A = ℕ} 0 1 = cc in absurd (omega arith))
+      (cases_Bool (ltb limit (get_or vs i 0)))
 
-  pub found : limit < get_or vs i 0 → high_values 0 limit vs ≡ Some (HighValue i limit)
-  found h = step ∙ cond-true _ _ _ (lt-ltb _ _ h)
-
-  pub passed : get_or vs i 0 ≤ limit → high_values 0 limit vs ≡ high_values (i + 1) limit (drop (i + 1) vs)
-  passed h = step ∙ cond-false _ _ _ (le-ltb _ _ h)
-
-pub none : (limit : ℕ) (vs : List ℕ) (i : ℕ) → length vs ≤ i → high_values 0 limit vs ≡ high_values i limit (drop i vs) → high_values 0 limit vs ≡ None
-none limit vs i h so_far = so_far ∙ ap (high_values i limit) (drop_of_length-le vs h)
-
--- the values so far, and one more
-pub copied : (xs vs : List ℕ) (i v : ℕ) → i < length xs → i < length vs → v ≡ get_or vs i 0 → take i xs ≡ take i vs → take (i + 1) (set xs i v) ≡ take (i + 1) vs
-copied xs vs i v h k e same =
-    take_more_set xs i v h ∙ ap (λ ys. ys ++ v ∷ []) same ∙ ap (λ x. take i vs ++ x ∷ []) e ∙ sym (take_more vs i 0 k)
+  -- all values are through
+  pub none : ((k : ℕ) → k < length vs → get_or vs k 0 ≤ limit) → high_values limit vs ≡ None
+  none before = ap (option_map (λ k. HighValue k limit)) (none_at (ltb limit) vs 0 (λ k l. le-ltb _ _ (before k l)))

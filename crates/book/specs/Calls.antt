@@ -1,23 +1,27 @@
 -- Each call as a computation on the book and its pages: its causes of refusal in the order in which they count,
 -- and what it does where none holds.
-use Rattle.std.specs.Prelude.{◌≡◌, ℕ, ◌+◌, ◌-◌, ◌*◌, ◌^◌, List, [], ◌∷◌, length, replicate, ℤ, Some, None, Ok, Err, Option, Result, nat_lt, slice_set}
-use Rattle.book.specs.Causes.{bad_amount, bad_blocks, bad_notice, high_value, high_values, used_slot, value_count, wrong_number}
+use Rattle.std.specs.Prelude.{◌≡◌, ℕ, ◌+◌, ◌-◌, ◌*◌, ◌^◌, List, [], ◌∷◌, replicate, ℤ, Some, None, Ok, Err, Option, Result, nat_lt, slice_set}
+use Rattle.book.specs.Causes.{bad_amount, bad_blocks, high_value, revision_causes}
 use Rattle.book.specs.Lists.{installed_power_at, spliced}
 use Rattle.book.specs.Refusals.{first, when}
-use Rattle.book.specs.States.{State, admission, generator_admission, owner_of, presence, sheet_at, station_at}
+use Rattle.book.specs.States.{State, admission, generator_admission, owner_of, presence, sheet_at, state, station_at}
 use Rattle.book.specs.Stations.{available, drawn, filed_on, moved, paid, revised_in, settled_at, slot_of}
+use Rattle.book.specs.declared.book.Book.{Book}
+use Rattle.book.specs.declared.pages.Pages.{Pages}
 use Rattle.book.specs.declared.station.Action.TheVariants.{File, Declare, Issue, Revise, Close, Read, Settle, Correct}
 use Rattle.book.specs.declared.station.Station.{Station}
 use Rattle.posting.specs.Days.{posted_accounts, standing_charges}
 use Rattle.posting.specs.Missing.{first_missing_of}
 use Rattle.posting.specs.declared.account.Account.{Account}
 use Rattle.posting.specs.declared.place.Place.{Place}
+use Rattle.share.specs.declared.key.Key as key
 use Rattle.share.specs.declared.load.Load.{Load}
 use Rattle.std.specs.Option.{unwrap_or}
-use Rattle.units.specs.Bits.{count_of, first_absent_of, last_of}
+use Rattle.units.specs.Bits.{first_absent_of}
 use Rattle.units.specs.declared.fault.Fault.{Fault}
 use Rattle.units.specs.declared.fault.Fault.TheVariants.{DrawAboveCash, DrawAboveDue, FullCash, MissingReading, Unfiled}
 use Rattle.tariff.specs.declared.query.Query.{Query}
+use Rattle.tariff.specs.declared.tariff.Tariff as tariff
 
 abbrev pub Answer : Type 0
 Answer = Result Unit Fault
@@ -36,25 +40,31 @@ pub record Does (o : Outcome) (r : Answer) (s : State) : Type 0 where
   pub answer : r ≡ o.answer
   pub after : s ≡ o.after
 
+-- A call of a book and the pages lent with it: it answered and left what is computed, under the same tariff and key.
+pub record Makes {T K : Type 0} {rules : tariff.Ghosts T} {weights : key.Ghosts K} (call : State → Outcome) (b : Book T K rules weights) (p : Pages) (b' : Book T K rules weights) (p' : Pages) (r : Answer) : Type 0 where
+  pub does : Does (call (state b p)) r (state b' p')
+  pub tariff : b'.tariff ≡ b.tariff
+  pub key : b'.key ≡ b.key
+
 -- one part changed
 
 abbrev pub with_station : ℕ → Station → State → State
-with_station t x s = record { stations = slice_set s.stations t x; cash = s.cash; schedules = s.schedules; capacities = s.capacities; readings = s.readings; accounts = s.accounts }
+with_station t x s = record s { stations = slice_set s.stations t x }
 
 abbrev pub with_cash : ℕ → State → State
-with_cash cash s = record { stations = s.stations; cash = cash; schedules = s.schedules; capacities = s.capacities; readings = s.readings; accounts = s.accounts }
+with_cash cash s = record s { cash = cash }
 
 abbrev pub with_schedules : List ℕ → State → State
-with_schedules page s = record { stations = s.stations; cash = s.cash; schedules = page; capacities = s.capacities; readings = s.readings; accounts = s.accounts }
+with_schedules page s = record s { schedules = page }
 
 abbrev pub with_capacities : List ℕ → State → State
-with_capacities page s = record { stations = s.stations; cash = s.cash; schedules = s.schedules; capacities = page; readings = s.readings; accounts = s.accounts }
+with_capacities page s = record s { capacities = page }
 
 abbrev pub with_readings : List (Option ℕ) → State → State
-with_readings page s = record { stations = s.stations; cash = s.cash; schedules = s.schedules; capacities = s.capacities; readings = page; accounts = s.accounts }
+with_readings page s = record s { readings = page }
 
 abbrev pub with_accounts : List Account → State → State
-with_accounts page s = record { stations = s.stations; cash = s.cash; schedules = s.schedules; capacities = s.capacities; readings = s.readings; accounts = page }
+with_accounts page s = record s { accounts = page }
 
 -- a schedule of kw for the blocks from `from` to `to`
 abbrev pub filing : ℕ → ℕ → ℕ → ℕ → State → Outcome
@@ -81,18 +91,10 @@ first_revised n = n + 3
 abbrev pub revising : ℕ → ℕ → ℕ → List ℕ → State → Outcome
 revising t k n vs s =
     let x = station_at s t in
-    let slot = slot_of x.kind n in
     unless
-    (first (
-    admission Revise t s
-    ∷ bad_notice n slot
-    ∷ value_count (length vs) (93 - n)
-    ∷ high_values 0 6400000 vs
-    ∷ wrong_number k (count_of x.slots.bits)
-    ∷ used_slot (unwrap_or slot 0) (last_of x.slots.bits)
-    ∷ []))
+    (first (admission Revise t s ∷ revision_causes k n vs x))
     s
-    (with_schedules (spliced (96 * t + first_revised n) vs s.schedules) (with_station t (revised_in (unwrap_or slot 0) (moved Revise x)) s))
+    (with_schedules (spliced (96 * t + first_revised n) vs s.schedules) (with_station t (revised_in (unwrap_or (slot_of x.kind n) 0) (moved Revise x)) s))
 
 abbrev pub closing : ℕ → State → Outcome
 closing t s = unless (admission Close t s) s (with_station t (moved Close (station_at s t)) s)
@@ -143,7 +145,7 @@ correcting charge weighs g b kw s =
     ∷ missing_reading (first_missing_of s.readings (Some (record { generator = g; block = b })) x.members)
     ∷ []))
     s
-    (posted charge weighs t (moved Correct x) (with_readings (spliced (96 * g + b) (replicate 1 (Some kw)) s.readings) s))
+    (posted charge weighs t (moved Correct x) (with_readings (slice_set s.readings (96 * g + b) (Some kw)) s))
 
 -- the cash would pass 10^15 paise
 abbrev pub full_cash : ℕ → ℕ → ℕ → Option Fault

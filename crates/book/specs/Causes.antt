@@ -1,6 +1,10 @@
 -- The causes for which a call's own numbers refuse it.
-use Rattle.std.specs.Prelude.{ℕ, ◌+◌, ◌^◌, cond, not, ◌||◌, List, [], ◌∷◌, Some, None, Option, ◌==◌, nat_le, nat_lt}
+use Rattle.std.specs.Prelude.{ℕ, ◌+◌, ◌-◌, ◌^◌, not, ◌||◌, List, [], ◌∷◌, length, Some, None, Option, ◌==◌, nat_le, nat_lt, position}
 use Rattle.book.specs.Refusals.{when}
+use Rattle.book.specs.Stations.{slot_of}
+use Rattle.book.specs.declared.station.Station.{Station}
+use Rattle.std.specs.Option.{option_map, unwrap_or}
+use Rattle.units.specs.Bits.{count_of, last_of}
 use Rattle.units.specs.declared.fault.Fault.{Fault}
 use Rattle.units.specs.declared.fault.Fault.TheVariants.{BadAmount, BadBlocks, BadNotice, HighValue, RevisionNumber, UsedSlot, ValueCount}
 
@@ -12,10 +16,9 @@ bad_blocks from to = when (nat_lt 95 to || nat_lt to from) (BadBlocks from to)
 abbrev pub high_value : ℕ → ℕ → ℕ → Option Fault
 high_value position limit value = when (nat_lt limit value) (HighValue position limit)
 
--- the first of the values from a position on that is above the limit
-abbrev pub high_values : ℕ → ℕ → List ℕ → Option Fault
-high_values position limit [] = None
-high_values position limit (v ∷ vs) = cond (nat_lt limit v) (Some (HighValue position limit)) (high_values (position + 1) limit vs)
+-- the first of the values that is above the limit
+abbrev pub high_values : ℕ → List ℕ → Option Fault
+high_values limit vs = option_map (λ i. HighValue i limit) (position (nat_lt limit) vs)
 
 -- a notice that the station may not give
 abbrev pub bad_notice : ℕ → Option ℕ → Option Fault
@@ -34,6 +37,17 @@ wrong_number given used = when (not (given == used + 1)) (RevisionNumber given (
 abbrev pub used_slot : ℕ → Option ℕ → Option Fault
 used_slot slot None = None
 used_slot slot (Some last) = when (nat_le slot last) (UsedSlot slot last)
+
+-- the causes for which revision k of station x, with notice in block n, is refused for its own numbers
+abbrev pub revision_causes : ℕ → ℕ → List ℕ → Station → List (Option Fault)
+revision_causes k n vs x =
+    let slot = slot_of x.kind n in
+    bad_notice n slot
+    ∷ value_count (length vs) (93 - n)
+    ∷ high_values 6400000 vs
+    ∷ wrong_number k (count_of x.slots.bits)
+    ∷ used_slot (unwrap_or slot 0) (last_of x.slots.bits)
+    ∷ []
 
 -- an amount of nothing, or above 10^12 paise
 abbrev pub bad_amount : ℕ → ℕ → Option Fault

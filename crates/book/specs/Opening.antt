@@ -1,5 +1,5 @@
 -- What opens a book: the causes that refuse it, and the stations and pages as the day begins.
-use Rattle.std.specs.Prelude.{◌≡◌, ℕ, ◌+◌, ◌*◌, ◌<◌, ◌≤◌, Bool, cond, not, ◌&&◌, ◌||◌, ◌⊎◌, List, [], ◌∷◌, map, length, replicate, ℤ, pos, Some, None, vec_items, Option, Result, MatchResult, ◌==◌, nat_le, nat_lt, slice_index}
+use Rattle.std.specs.Prelude.{◌≡◌, ℕ, ◌+◌, ◌*◌, ◌<◌, ◌≤◌, Bool, cond, not, ◌&&◌, ◌||◌, ◌⊎◌, List, [], ◌∷◌, map, length, replicate, sum, zip, position, ℤ, pos, Some, None, vec_items, Option, Result, MatchResult, ◌==◌, nat_le, nat_lt, slice_index}
 use Rattle.book.specs.Lists.{spliced}
 use Rattle.book.specs.Refusals.{first, when}
 use Rattle.book.specs.States.{Room, lengths_in, short_for}
@@ -9,6 +9,7 @@ use Rattle.book.specs.declared.station.Station.{Station}
 use Rattle.posting.specs.declared.account.Account.{Account}
 use Rattle.share.specs.declared.key.Key as key
 use Rattle.std.specs.List.{flat_map}
+use Rattle.std.specs.Option.{option_map}
 use Rattle.tariff.specs.declared.tariff.Tariff as tariff
 use Rattle.units.specs.declared.call.Opening.{Opening}
 use Rattle.units.specs.declared.fault.Fault.{Fault}
@@ -19,9 +20,8 @@ use Rattle.units.specs.declared.station.Phase.{Phase}
 use Rattle.units.specs.declared.station.Phase.TheVariants.{Filing}
 
 -- the generators of all stations
-abbrev pub generators_in : List ℕ → ℕ
-generators_in [] = 0
-generators_in (count ∷ counts) = count + generators_in counts
+unfoldable pub generators_in : List ℕ → ℕ
+generators_in counts = sum counts
 
 -- the causes
 
@@ -33,20 +33,25 @@ station_count_fault kinds counts = when (kinds == 0 || (nat_lt 16 kinds || not (
 abbrev pub sound_station : ℕ → ℕ → Bool
 sound_station kind count = nat_le kind 1 && (nat_le 1 count && nat_le count 32)
 
--- the first of the stations from number t on that is not sound
-abbrev pub bad_stations : ℕ → List ℕ → List ℕ → Option Fault
-bad_stations t [] counts = None
-bad_stations t (kind ∷ kinds) [] = None
-bad_stations t (kind ∷ kinds) (count ∷ counts) = cond (sound_station kind count) (bad_stations (t + 1) kinds counts) (Some (BadStation t))
+-- a kind and a count that are not sound
+abbrev pub unsound : ℕ × ℕ → Bool
+unsound x = not (sound_station x.0 x.1)
+
+-- the first of the stations that is not sound
+abbrev pub bad_stations : List ℕ → List ℕ → Option Fault
+bad_stations kinds counts = option_map BadStation (position unsound (zip kinds counts))
 
 -- not an installed power for each generator
 abbrev pub installed_count_fault : ℕ → ℕ → Option Fault
 installed_count_fault given needed = when (not (given == needed)) (InstalledCount given needed)
 
--- the first of the generators from number g on with an installed power outside 1,000 to 200,000 kW
-abbrev pub bad_installed : ℕ → List ℕ → Option Fault
-bad_installed g [] = None
-bad_installed g (kw ∷ kws) = cond (nat_le 1000 kw && nat_le kw 200000) (bad_installed (g + 1) kws) (Some (InstalledRange g kw))
+-- an installed power outside 1,000 to 200,000 kW
+abbrev pub outside : ℕ → Bool
+outside kw = nat_lt kw 1000 || nat_lt 200000 kw
+
+-- the first of the generators with such a power
+abbrev pub bad_installed : List ℕ → Option Fault
+bad_installed kws = option_map (λ g. InstalledRange g (slice_index kws g)) (position outside kws)
 
 -- the causes in the order in which they count
 abbrev pub opening_fault : Opening → Pages → Option Fault
@@ -56,9 +61,9 @@ opening_fault o p =
     let installed = vec_items o.installed in
     first (
     station_count_fault (length kinds) (length counts)
-    ∷ bad_stations 0 kinds counts
+    ∷ bad_stations kinds counts
     ∷ installed_count_fault (length installed) (generators_in counts)
-    ∷ bad_installed 0 installed
+    ∷ bad_installed installed
     ∷ short_for (length kinds) (generators_in counts) (lengths_in p)
     ∷ [])
 
@@ -91,8 +96,11 @@ abbrev pub kind_of : ℕ → Kind
 kind_of number = cond (number == 0) Wind Solar
 
 -- a station of `count` generators from the number `from` on, with nothing filed, revised, charged, paid or drawn
+abbrev pub view_opened : ℕ → Kind → ℕ → View
+view_opened from kind count = record { kind = kind; phase = Filing; first = from; count = count; filed = 0; slots = 0; charges = pos 0; net = pos 0 }
+
 abbrev pub station_opened : ℕ → ℕ → ℕ → View
-station_opened from kind count = record { kind = kind_of kind; phase = Filing; first = from; count = count; filed = 0; slots = 0; charges = pos 0; net = pos 0 }
+station_opened from kind count = view_opened from (kind_of kind) count
 
 -- each station's generators follow those of the stations before
 abbrev pub opened_stations : ℕ → List ℕ → List ℕ → List View
@@ -116,6 +124,13 @@ pub record Begun (stations : ℕ) (installed : List ℕ) (before after : Pages) 
   pub capacities : vec_items after.capacities ≡ spliced 0 (flat_map all_day installed) (vec_items before.capacities)
   pub readings : vec_items after.readings ≡ spliced 0 (replicate (96 * length installed) None) (vec_items before.readings)
   pub accounts : vec_items after.accounts ≡ spliced 0 (map opened_account installed) (vec_items before.accounts)
+
+-- new pages: no schedule and no capacity, no reading, and accounts of zeros
+pub record Blank (stations generators : ℕ) (p : Pages) : Type 0 where
+  pub schedules : vec_items p.schedules ≡ replicate (96 * stations) 0
+  pub capacities : vec_items p.capacities ≡ replicate (96 * generators) 0
+  pub readings : vec_items p.readings ≡ replicate (96 * generators) None
+  pub accounts : vec_items p.accounts ≡ replicate generators (opened_account 0)
 
 -- what an opening leaves
 
@@ -147,7 +162,7 @@ pub record Stands (kinds counts : List ℕ) : Type 0 where
   pub some : 0 < length kinds
   pub few : length kinds ≤ 16
   pub same : length counts ≡ length kinds
-  pub sound : bad_stations 0 kinds counts ≡ None
+  pub sound : bad_stations kinds counts ≡ None
 
 -- an opening without fault, of n generators
 pub record Openable (o : Opening) (p : Pages) (n : ℕ) : Type 0 where

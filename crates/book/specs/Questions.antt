@@ -1,16 +1,17 @@
 -- What the questions answer, and why they are refused.
-use Rattle.std.specs.Prelude.{ℕ, ◌-◌, [], ◌∷◌, ℤ, None, Option, slice_index_or}
+use Rattle.std.specs.Prelude.{◌≡◌, ℕ, ◌-◌, [], ◌∷◌, take, drop, ℤ, None, Option, slice_index_or}
 use Rattle.book.specs.Calls.{missing_reading}
 use Rattle.book.specs.Causes.{bad_blocks}
 use Rattle.book.specs.Refusals.{first}
 use Rattle.book.specs.States.{State, admission, generator_admission, owner_of, sheet_at, station_at}
-use Rattle.book.specs.declared.answers.Amounts.{Amounts}
+use Rattle.book.specs.Stations.{due_of}
 use Rattle.book.specs.declared.answers.Progress.{Progress}
+use Rattle.book.specs.declared.answers.Statement.{Statement}
 use Rattle.book.specs.declared.station.Action.TheVariants.{Ask}
 use Rattle.book.specs.declared.station.Station.{Station}
-use Rattle.posting.specs.Days.{charge_at, energy_share, money_share, no_account}
+use Rattle.posting.specs.Days.{figures_at, no_account, share_at}
 use Rattle.posting.specs.Missing.{missing_in}
-use Rattle.posting.specs.Sheets.{deviation_at}
+use Rattle.share.specs.declared.amounts.Amounts.{Amounts}
 use Rattle.share.specs.declared.load.Load.{Load}
 use Rattle.tariff.specs.declared.query.Query.{Query}
 use Rattle.units.specs.Bits.{count_of}
@@ -30,10 +31,7 @@ charge_refusal t b s = first (admission Ask t s ∷ bad_blocks b b ∷ missing_i
 
 -- the charge of the block, and by how much the station deviates from its schedule
 abbrev pub charge_answer : (Query → ℤ) → ℕ → ℕ → State → Amounts
-charge_answer charge t b s = record {
-  money = charge_at charge (sheet_at s) t (station_at s t).members b;
-  energy = deviation_at (sheet_at s) t (station_at s t).members b;
-}
+charge_answer charge t b s = figures_at charge (sheet_at s) t (station_at s t).members b
 
 -- a question on the block b of generator g
 abbrev pub share_refusal : ℕ → ℕ → State → Option Fault
@@ -44,10 +42,17 @@ abbrev pub share_answer : (Query → ℤ) → (Load → Load → ℕ) → ℕ �
 share_answer charge weighs g b s =
     let t = owner_of s g in
     let m = (station_at s t).members in
-    record {
-      money = money_share charge weighs (sheet_at s) t m (g - m.first) b;
-      energy = energy_share weighs (sheet_at s) t m (g - m.first) b;
-    }
+    share_at charge weighs (sheet_at s) t m (g - m.first) b
+
+-- the statement of station t, under a tariff with this code
+pub record Stated (code t : ℕ) (s : State) (a : Statement) : Type 0 where
+  pub station : a.station ≡ t
+  pub code_is : a.code ≡ code
+  pub charges : a.charges ≡ (station_at s t).charges
+  pub due : a.due ≡ due_of (station_at s t)
+  pub cash : a.cash ≡ s.cash
+  pub first_is : a.first ≡ (station_at s t).members.first
+  pub accounts : a.accounts.now ≡ take (station_at s t).members.count (drop (station_at s t).members.first s.accounts)
 
 -- what stands on generator g's account
 abbrev pub account_answer : ℕ → State → Amounts

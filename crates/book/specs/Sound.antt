@@ -1,5 +1,5 @@
 -- What holds of a book's stations between calls.
-use Rattle.std.specs.Prelude.{◌≡◌, ℕ, ◌+◌, ◌^◌, ◌<◌, ◌≤◌, List, [], ◌∷◌, length, get_or, take, ℤ, pos, ◌+ℤ◌, ◌≤ℤ◌, slice_index_or, unsigned_abs}
+use Rattle.std.specs.Prelude.{◌≡◌, ℕ, ◌^◌, ◌<◌, ◌≤◌, List, [], ◌∷◌, length, get_or, sum_by, take, ℤ, pos, ◌+ℤ◌, ◌≤ℤ◌, slice_index_or, unsigned_abs}
 use Rattle.book.specs.declared.station.Station.{Station}
 use Rattle.units.specs.declared.station.Kind.{Kind}
 use Rattle.units.specs.declared.station.Kind.TheVariants.{Wind, Solar}
@@ -30,9 +30,6 @@ InDay s = s.filed.bits < 2 ^ 96
 abbrev pub InSlots : Station → Type 0
 InSlots s = s.slots.bits < 2 ^ slots_of s.kind
 
-abbrev pub Each : (Station → Type 0) → List Station → Type 0
-Each P ss = (k : ℕ) (d : Station) → k < length ss → P (slice_index_or ss k d)
-
 -- what was drawn less what was paid, of all stations
 abbrev pub nets : List Station → ℤ
 nets [] = pos 0
@@ -40,8 +37,7 @@ nets (s ∷ ss) = s.net +ℤ nets ss
 
 -- the generators of all stations
 abbrev pub generators_of : List Station → ℕ
-generators_of [] = 0
-generators_of (s ∷ ss) = s.members.count + generators_of ss
+generators_of ss = sum_by (λ s. s.members.count) ss
 
 -- each station's generators follow those of the stations before
 abbrev pub Laid : List Station → Type 0
@@ -50,10 +46,10 @@ Laid ss = (k : ℕ) (d : Station) → k < length ss → (get_or ss k d).members.
 -- The station at t may become s, and the cash what it is then: s keeps its generators, and the cash moves by what s drew or paid.
 pub record Changes (ss : List Station) (t cash : ℕ) (s : Station) (then : ℕ) : Type 0 where
   pub within : t < length ss
-  pub placed : s.members ≡ (get_or ss t s).members
+  pub placed : (d : Station) → s.members ≡ (slice_index_or ss t d).members
   pub light : Light s
   pub covered : Covered s
   pub in_day : InDay s
   pub in_slots : InSlots s
   pub low : then ≤ 10 ^ 15
-  pub even : s.net +ℤ pos then ≡ (get_or ss t s).net +ℤ pos cash
+  pub even : (d : Station) → s.net +ℤ pos then ≡ (slice_index_or ss t d).net +ℤ pos cash

@@ -1,7 +1,7 @@
 -- The book and the pages lent with it, and what every call tests first.
-use Rattle.std.specs.Prelude.{◌≡◌, ℕ, ◌+◌, ◌*◌, ◌<◌, ◌≤◌, cond, not, List, [], ◌∷◌, length, is_some, vec_items, Option, nat_le, nat_lt, slice_index_or}
+use Rattle.std.specs.Prelude.{◌≡◌, ℕ, ◌+◌, ◌*◌, ◌<◌, ◌≤◌, Bool, not, List, [], ◌∷◌, length, is_some, vec_items, Option, nat_le, nat_lt, slice_index_or}
 use Rattle.book.specs.Refusals.{first, when}
-use Rattle.book.specs.Sound.{generators_of}
+use Rattle.book.specs.Sound.{Bounded, Changes, generators_of}
 use Rattle.book.specs.Stations.{fresh, moved, moves}
 use Rattle.book.specs.declared.book.Book.{Book}
 use Rattle.book.specs.declared.pages.Pages.{Pages}
@@ -12,8 +12,11 @@ use Rattle.posting.specs.declared.account.Account.{Account}
 use Rattle.posting.specs.declared.members.Members.{Members}
 use Rattle.share.specs.declared.key.Key as key
 use Rattle.tariff.specs.declared.tariff.Tariff as tariff
+use Rattle.std.specs.List.{position_or_len}
 use Rattle.units.specs.declared.fault.Fault.{Fault}
 use Rattle.units.specs.declared.fault.Fault.TheVariants.{NoSuchNumber, ShortPage, WrongPhase}
+use Rattle.units.specs.declared.fault.Page.{Page}
+use Rattle.units.specs.declared.fault.Page.TheVariants.{Schedules, Capacities, Readings, Accounts}
 use Rattle.units.specs.declared.station.Kind.TheVariants.{Wind}
 use Rattle.std.proofs.Common.{lit<, lit≤}
 
@@ -54,17 +57,17 @@ nobody = fresh Wind alone
 abbrev pub station_at : State → ℕ → Station
 station_at s t = slice_index_or s.stations t nobody
 
--- the station of a generator: the first that has it or one after it
-abbrev pub owner_from : ℕ → List Station → ℕ → ℕ
-owner_from t [] g = t
-owner_from t (s ∷ ss) g = cond (nat_lt g (s.members.first + s.members.count)) t (owner_from (t + 1) ss g)
+-- a station has the generator, or one before it has
+abbrev pub reaches : ℕ → Station → Bool
+reaches g x = nat_lt g (x.members.first + x.members.count)
 
+-- the station of a generator: the first that reaches it
 abbrev pub owner_of : State → ℕ → ℕ
-owner_of s g = owner_from 0 s.stations g
+owner_of s g = position_or_len (reaches g) s.stations
 
 -- the causes that calls share
 
-abbrev pub short_page : ℕ → ℕ → ℕ → Option Fault
+abbrev pub short_page : Page → ℕ → ℕ → Option Fault
 short_page page given needed = when (nat_lt given needed) (ShortPage page needed)
 
 -- how many entries the four pages have
@@ -93,10 +96,10 @@ lengths_of s = record {
 -- the first page that is too short for so many stations and generators
 abbrev pub short_for : ℕ → ℕ → Lengths → Option Fault
 short_for stations generators l = first (
-    short_page 1 l.schedules (96 * stations)
-    ∷ short_page 2 l.capacities (96 * generators)
-    ∷ short_page 3 l.readings (96 * generators)
-    ∷ short_page 4 l.accounts generators
+    short_page Schedules l.schedules (96 * stations)
+    ∷ short_page Capacities l.capacities (96 * generators)
+    ∷ short_page Readings l.readings (96 * generators)
+    ∷ short_page Accounts l.accounts generators
     ∷ [])
 
 abbrev pub short_pages : State → Option Fault
@@ -122,8 +125,9 @@ no_station t s = no_station_of s.stations t
 abbrev pub no_generator : ℕ → State → Option Fault
 no_generator g s = when (nat_le (generators s) g) (NoSuchNumber g)
 
-abbrev pub wrong_phase : Action → ℕ → State → Option Fault
-wrong_phase a t s = when (not (is_some (moves (station_at s t).phase a))) (WrongPhase t (station_at s t).phase)
+-- station t does not take the action in its phase
+abbrev pub wrong_phase : Action → ℕ → Station → Option Fault
+wrong_phase a t x = when (not (is_some (moves x.phase a))) (WrongPhase t x.phase)
 
 -- the pages fit, and there is station t
 abbrev pub presence : ℕ → State → Option Fault
@@ -131,7 +135,7 @@ presence t s = first (short_pages s ∷ no_station t s ∷ [])
 
 -- a call on station t that depends on its phase
 abbrev pub admission : Action → ℕ → State → Option Fault
-admission a t s = first (presence t s ∷ wrong_phase a t s ∷ [])
+admission a t s = first (presence t s ∷ wrong_phase a t (station_at s t) ∷ [])
 
 -- the pages fit, and there is generator g
 abbrev pub generator_presence : ℕ → State → Option Fault
@@ -139,24 +143,24 @@ generator_presence g s = first (short_pages s ∷ no_generator g s ∷ [])
 
 -- a call on generator g that depends on its station's phase
 abbrev pub generator_admission : Action → ℕ → State → Option Fault
-generator_admission a g s = first (generator_presence g s ∷ wrong_phase a (owner_of s g) s ∷ [])
+generator_admission a g s = first (generator_presence g s ∷ wrong_phase a (owner_of s g) (station_at s (owner_of s g)) ∷ [])
 
--- x is the station t of the list
-pub record StationIs (ss : List Station) (t : ℕ) (x : Station) : Type 0 where
-  pub within : t < length ss
+-- x is the station t of the list: its sums fit, and with this cash it may stay as it is
+pub record StationIs (ss : List Station) (cash t : ℕ) (x : Station) : Type 0 where
   pub is : x ≡ slice_index_or ss t nobody
+  pub bounded : Bounded x
+  pub stays : Changes ss t cash x cash
 
 -- x is station t, and the pages fit
 pub record Found (t : ℕ) (s : State) (x : Station) : Type 0 where
   pub fit : Fit s
-  pub within : t < length s.stations
-  pub is : x ≡ station_at s t
+  pub station : StationIs s.stations s.cash t x
 
--- x is station t in the phase that the action leads to, and the pages fit
+-- x is station t in the phase that the action leads to, which it may become, and the pages fit
 pub record Admitted (a : Action) (t : ℕ) (s : State) (x : Station) : Type 0 where
   pub fit : Fit s
-  pub within : t < length s.stations
   pub is : x ≡ moved a (station_at s t)
+  pub becomes : Changes s.stations t s.cash x s.cash
 
 -- station t has generator g, and the pages fit
 pub record Owner (g : ℕ) (s : State) (t : ℕ) : Type 0 where
@@ -167,7 +171,8 @@ pub record Owner (g : ℕ) (s : State) (t : ℕ) : Type 0 where
   pub high : g < (station_at s t).members.first + (station_at s t).members.count
   pub is : t ≡ owner_of s g
 
--- the same, and x is that station in the phase that the action leads to
+-- the same, and x is that station in the phase that the action leads to, which it may become
 pub record Owned (a : Action) (g : ℕ) (s : State) (x : ℕ × Station) : Type 0 where
   pub owner : Owner g s x.0
   pub is : x.1 ≡ moved a (station_at s x.0)
+  pub becomes : Changes s.stations x.0 s.cash x.1 s.cash

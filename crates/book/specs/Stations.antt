@@ -17,39 +17,14 @@ abbrev pub moves : Phase → Action → Option Phase
 moves Filing File = Some Filing
 moves Filing Declare = Some Filing
 moves Filing Issue = Some Running
-moves Filing Revise = None
-moves Filing Close = None
-moves Filing Read = None
-moves Filing Settle = None
-moves Filing Correct = None
-moves Filing Ask = None
-moves Running File = None
 moves Running Declare = Some Running
-moves Running Issue = None
 moves Running Revise = Some Running
 moves Running Close = Some Metering
-moves Running Read = None
-moves Running Settle = None
-moves Running Correct = None
-moves Running Ask = None
-moves Metering File = None
-moves Metering Declare = None
-moves Metering Issue = None
-moves Metering Revise = None
-moves Metering Close = None
 moves Metering Read = Some Metering
 moves Metering Settle = Some Settled
-moves Metering Correct = None
-moves Metering Ask = None
-moves Settled File = None
-moves Settled Declare = None
-moves Settled Issue = None
-moves Settled Revise = None
-moves Settled Close = None
-moves Settled Read = None
-moves Settled Settle = None
 moves Settled Correct = Some Settled
 moves Settled Ask = Some Settled
+moves phase action = None
 
 -- A notice may be given in the blocks 0 to 92, by a solar station in the blocks 22 to 75; each slot has six of these blocks.
 abbrev pub slot_of : Kind → ℕ → Option ℕ
@@ -66,19 +41,19 @@ fresh kind members = record { kind = kind; phase = Filing; members = members; fi
 -- one part of a station changed
 
 abbrev pub in_phase : Phase → Station → Station
-in_phase p s = record { kind = s.kind; phase = p; members = s.members; filed = s.filed; slots = s.slots; charges = s.charges; net = s.net }
+in_phase p s = record s { phase = p }
 
 abbrev pub filed_on : ℕ → ℕ → Station → Station
-filed_on from to s = record { kind = s.kind; phase = s.phase; members = s.members; filed = record { bits = with_span s.filed.bits from to }; slots = s.slots; charges = s.charges; net = s.net }
+filed_on from to s = record s { filed = record { bits = with_span s.filed.bits from to } }
 
 abbrev pub revised_in : ℕ → Station → Station
-revised_in slot s = record { kind = s.kind; phase = s.phase; members = s.members; filed = s.filed; slots = record { bits = with_span s.slots.bits slot slot }; charges = s.charges; net = s.net }
+revised_in slot s = record s { slots = record { bits = with_span s.slots.bits slot slot } }
 
 abbrev pub settled_at : ℤ → Station → Station
-settled_at charges s = record { kind = s.kind; phase = s.phase; members = s.members; filed = s.filed; slots = s.slots; charges = charges; net = s.net }
+settled_at charges s = record s { charges = charges }
 
 abbrev pub with_net : ℤ → Station → Station
-with_net net s = record { kind = s.kind; phase = s.phase; members = s.members; filed = s.filed; slots = s.slots; charges = s.charges; net = net }
+with_net net s = record s { net = net }
 
 abbrev pub paid : ℕ → Station → Station
 paid x s = with_net (s.net -ℤ pos x) s

@@ -12,13 +12,6 @@ pub struct Progress {
     pub revisions: u32,
 }
 
-/// Money in paise, and energy in kW over a block.
-#[derive(Clone, Copy)]
-pub struct Amounts {
-    pub money: i64,
-    pub energy: i64,
-}
-
 /// The figures of a station's statement, and its generators' accounts.
 #[derive(Drop)]
 pub struct Statement<'a> {

@@ -9,8 +9,8 @@ mod posting_calls;
 mod questions;
 mod runs;
 
-ghost use Rattle.std.specs.Prelude.{◌≡◌, ◌^◌, ◌<◌, ◌≤◌, pos, ◌+ℤ◌, vec_len};
-ghost use Rattle.book.specs.Sound.{Covered, Each, generators_of, InDay, InSlots, Laid, Light, nets};
+ghost use Rattle.std.specs.Prelude.{◌≡◌, ◌^◌, ◌<◌, ◌≤◌, All, pos, ◌+ℤ◌, vec_len};
+ghost use Rattle.book.specs.Sound.{Covered, generators_of, InDay, InSlots, Laid, Light, nets};
 
 use crate::station::Station;
 use share::key::Key;
@@ -31,8 +31,8 @@ pub struct Book<T: Tariff, K: Key> {
     ghost laid: { Laid stations.items },
     ghost low: { cash ≤ 10 ^ 15 },
     ghost even: { nets stations.items +ℤ pos cash ≡ pos 0 },
-    ghost light: { Each Light stations.items },
-    ghost covered: { Each Covered stations.items },
-    ghost in_day: { Each InDay stations.items },
-    ghost in_slots: { Each InSlots stations.items },
+    ghost light: { All Light stations.items },
+    ghost covered: { All Covered stations.items },
+    ghost in_day: { All InDay stations.items },
+    ghost in_slots: { All InSlots stations.items },
 }

@@ -1,10 +1,11 @@
 //! Checks on the numbers of a call.
-ghost use Rattle.std.specs.Prelude.{◌≡◌, ◌<◌, ◌≤◌, [], ◌∷◌, length, take, None};
+ghost use Rattle.std.specs.Prelude.{◌≡◌, ◌<◌, ◌≤◌, [], ◌∷◌, length, None};
 ghost use Rattle.book.specs.Calls.{missing_reading};
 ghost use Rattle.book.specs.Causes.{bad_amount, bad_blocks, high_value, high_values, value_count};
 ghost use Rattle.book.specs.Refusals.{Checks, first};
 ghost use Rattle.posting.specs.Missing.{first_missing_of, missing_in};
 
+use arrayvec::ArrayVec;
 use posting::members::Members;
 use posting::missing::first_missing;
 use posting::pages::entry_or;
@@ -22,13 +23,13 @@ pub fn in_day(from: u64, to: u64) -> Result<(), Fault>
     Ok(())
 }
 
-/// A single value is at most its limit.
-pub fn at_most(limit: u32, value: u64) -> Result<u32, Fault>
-    ensures { Checks (high_value 0 limit value) (λ kw. (kw ≡ value) × (value ≤ limit)) result }
+/// The value at the position among those of a call is at most its limit.
+fn at_most(position: u64, limit: u32, value: u64) -> Result<u32, Fault>
+    ensures { Checks (high_value position limit value) (λ kw. (kw ≡ value) × (value ≤ limit)) result }
 {
     if value > u64::from(limit) {
         return Err(Fault::HighValue {
-            position: 0,
+            position,
             limit: u64::from(limit),
         });
     }
@@ -40,7 +41,7 @@ pub fn in_blocks(from: u64, to: u64, limit: u32, value: u64) -> Result<u32, Faul
     ensures { Checks (first (bad_blocks from to ∷ high_value 0 limit value ∷ [])) (λ kw. (from ≤ to) × (to < 96) × (kw ≡ value)) result }
 {
     in_day(from, to)?;
-    at_most(limit, value)
+    at_most(0, limit, value)
 }
 
 /// The most that one call pays or draws, in paise.
@@ -70,21 +71,28 @@ pub fn as_many(given: usize, needed: u64) -> Result<(), Fault>
 }
 
 /// The values, if each is at most the limit.
-pub fn all_at_most(limit: u32, values: &[u64]) -> Result<[u32; BLOCKS], Fault>
+pub fn all_at_most(limit: u32, values: &[u64]) -> Result<ArrayVec<u32, BLOCKS>, Fault>
     requires { length values.now ≤ 96 }
-    ensures { Checks (high_values 0 limit values.now) (λ x. (length x ≡ 96) × (take (length values.now) x ≡ values.now)) result }
+    ensures { Checks (high_values limit values.now) (λ x. x.items ≡ values.now) result }
 {
-    let mut schedule = [0; BLOCKS];
+    let mut kept = ArrayVec::new();
     for (i, value) in values.iter().enumerate() {
-        if *value > limit as u64 {
-            return Err(Fault::HighValue {
-                position: i as u64,
-                limit: limit as u64,
-            });
-        }
-        schedule[i] = *value as u32;
+        kept.push(at_most(i as u64, limit, *value)?);
     }
-    Ok(schedule)
+    Ok(kept)
+}
+
+/// No reading is missing, or the first that is.
+fn none_missing(first: Option<Place>) -> Result<(), Fault>
+    ensures { Checks (missing_reading first) (λ _. Unit {0}) result }
+{
+    match first {
+        Some(place) => Err(Fault::MissingReading {
+            generator: place.generator as u64,
+            block: place.block as u64,
+        }),
+        None => Ok(()),
+    }
 }
 
 /// No reading of a station's day is missing but the one at `except`.
@@ -95,32 +103,20 @@ pub fn complete(
 ) -> Result<(), Fault>
     ensures { Checks (missing_reading (first_missing_of readings.now except members)) (λ _. Unit {0}) result }
 {
-    match first_missing(readings, members, except) {
-        Some(place) => Err(Fault::MissingReading {
-            generator: place.generator as u64,
-            block: place.block as u64,
-        }),
-        None => Ok(()),
-    }
+    none_missing(first_missing(readings, members, except))
 }
 
-/// No reading of a station is missing in the block.
-pub fn block_complete(readings: &[Option<u32>], members: Members, block: usize) -> Result<(), Fault>
+/// The first of a station's readings that is missing in the block.
+fn missing_in_block(readings: &[Option<u32>], members: Members, block: usize) -> Option<Place>
     requires { block < 96 }
-    ensures { Checks (missing_reading (missing_in readings.now None block members.first members.count)) (λ _. Unit {0}) result }
+    ensures { result ≡ missing_in readings.now None block members.first members.count }
 {
-    let first = members.first();
-    for k in 0..members.count() {
-        let generator = first + k;
-        let reading = entry_or(readings, BLOCKS * generator + block, None);
-        if reading.is_none() {
-            return Err(Fault::MissingReading {
-                generator: generator as u64,
-                block: block as u64,
-            });
+    for generator in members.first()..members.end() {
+        if entry_or(readings, BLOCKS * generator + block, None).is_none() {
+            return Some(Place { generator, block });
         }
     }
-    Ok(())
+    None
 }
 
 /// The block is one of the day, and no reading of a station is missing in it.
@@ -128,5 +124,5 @@ pub fn block_read(readings: &[Option<u32>], members: Members, block: u64) -> Res
     ensures { Checks (first (bad_blocks block block ∷ missing_reading (missing_in readings.now None block members.first members.count) ∷ [])) (λ _. block < 96) result }
 {
     in_day(block, block)?;
-    block_complete(readings, members, block as usize)
+    none_missing(missing_in_block(readings, members, block as usize))
 }

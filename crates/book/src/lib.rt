@@ -9,6 +9,7 @@ mod pages;
 pub mod promises;
 mod station;
 
-pub use answers::{Amounts, Progress, Statement};
+pub use answers::{Progress, Statement};
 pub use book::Book;
 pub use pages::Pages;
+pub use posting::amounts::Amounts;

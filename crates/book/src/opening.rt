@@ -1,6 +1,6 @@
 //! Checks on an opening, and the stations that it lays.
-ghost use Rattle.std.specs.Prelude.{◌≡◌, ◌*◌, ◌<◌, ◌≤◌, map, length, MatchResult};
-ghost use Rattle.book.specs.Opening.{bad_installed, bad_stations, generators_in, Installable, installed_count_fault, kind_of, station_opened, opened_stations, sound_station, Stands, station_count_fault, view_of};
+ghost use Rattle.std.specs.Prelude.{◌≡◌, ◌<◌, ◌≤◌, map, length, position, zip, MatchResult};
+ghost use Rattle.book.specs.Opening.{bad_installed, bad_stations, generators_in, Installable, installed_count_fault, kind_of, opened_stations, outside, sound_station, Stands, station_count_fault, unsound, view_of, view_opened};
 ghost use Rattle.book.specs.Refusals.{Checks};
 ghost use Rattle.posting.specs.Members.{Numbered};
 ghost use Rattle.units.specs.declared.fault.Fault.TheVariants.{NoMemory};
@@ -29,24 +29,38 @@ pub fn station_count(kinds: usize, counts: usize) -> Result<(), Fault>
 fn is_sound(kind: u64, count: u64) -> bool
     ensures { result ≡ sound_station kind count }
 {
-    kind <= 1 && 1 <= count && count <= GENERATORS as u64
+    Kind::try_from(kind).is_ok() && 1 <= count && count <= GENERATORS as u64
+}
+
+/// The first station that is not sound.
+fn first_unsound(kinds: &[u64], counts: &[u64]) -> Option<usize>
+    ensures { result ≡ position unsound (zip kinds.now counts.now) }
+{
+    kinds
+        .iter()
+        .zip(counts)
+        .position(|(kind, count)| !is_sound(*kind, *count))
+}
+
+/// The generators of all stations.
+#[tactic(auto, unfolding(crate::specs::Opening::generators_in))]
+fn total(counts: &[u64]) -> usize
+    requires { generators_in counts.now ≤ 512 }
+    ensures { result ≡ generators_in counts.now }
+{
+    counts.iter().sum::<u64>() as usize
 }
 
 /// Each station is sound: the number of their generators.
 pub fn sound_stations(kinds: &[u64], counts: &[u64]) -> Result<usize, Fault>
     requires few { length kinds.now ≤ 16 }
     requires same { length counts.now ≡ length kinds.now }
-    ensures { Checks (bad_stations 0 kinds.now counts.now) (λ n. (n ≡ generators_in counts.now) × (n ≤ 512)) result }
+    ensures { Checks (bad_stations kinds.now counts.now) (λ n. (n ≡ generators_in counts.now) × (n ≤ 512)) result }
 {
-    let mut generators = 0;
-    for (t, kind) in kinds.iter().enumerate() {
-        let count = counts[t];
-        if !is_sound(*kind, count) {
-            return Err(Fault::BadStation { station: t as u64 });
-        }
-        generators += count as usize;
+    match first_unsound(kinds, counts) {
+        Some(t) => Err(Fault::BadStation { station: t as u64 }),
+        None => Ok(total(counts)),
     }
-    Ok(generators)
 }
 
 /// There are as many installed powers as generators.
@@ -62,30 +76,52 @@ pub fn installed_count(given: usize, needed: usize) -> Result<(), Fault>
     Ok(())
 }
 
+/// An installed power that no generator may have.
+fn is_outside(kw: u64) -> bool
+    ensures { result ≡ outside kw }
+{
+    kw < u64::from(LEAST_INSTALLED) || kw > u64::from(MOST_INSTALLED)
+}
+
+/// The first such power.
+fn first_outside(installed: &[u64]) -> Option<usize>
+    ensures { result ≡ position outside installed.now }
+{
+    installed.iter().position(|kw| is_outside(*kw))
+}
+
 /// Each installed power is one that a generator may have.
 pub fn installed_range(installed: &[u64]) -> Result<(), Fault>
-    ensures { Checks (bad_installed 0 installed.now) (λ _. Installable installed.now) result }
+    ensures { Checks (bad_installed installed.now) (λ _. Installable installed.now) result }
 {
-    for (g, kw) in installed.iter().enumerate() {
-        if *kw < u64::from(LEAST_INSTALLED) || *kw > u64::from(MOST_INSTALLED) {
-            return Err(Fault::InstalledRange {
-                generator: g as u64,
-                kw: *kw,
-            });
-        }
+    match first_outside(installed) {
+        Some(g) => Err(Fault::InstalledRange {
+            generator: g as u64,
+            kw: installed[g],
+        }),
+        None => Ok(()),
     }
-    Ok(())
+}
+
+/// The kind of a sound station.
+fn kind_numbered(number: u64) -> Kind
+    requires { number ≤ 1 }
+    ensures { result ≡ kind_of number }
+{
+    let Ok(kind) = Kind::try_from(number) else {
+        unreachable()
+    };
+    kind
 }
 
 /// A station as its day begins, with `count` generators from number `first` on.
-fn opened_station(first: usize, kind: u64, count: usize) -> Station
+fn opened_station(first: usize, kind: Kind, count: usize) -> Station
     requires { Numbered first count }
-    ensures { view_of result ≡ station_opened first kind count }
+    ensures { view_of result ≡ view_opened first kind count }
 {
     let Some(members) = Members::of(first, count) else {
         unreachable()
     };
-    let kind = if kind == 0 { Kind::Wind } else { Kind::Solar };
     Station::new(kind, members)
 }
 
@@ -94,13 +130,11 @@ pub fn lay_stations(heap: Global, kinds: &[u64], counts: &[u64]) -> Result<Vec<S
     requires { Stands kinds.now counts.now }
     ensures { MatchResult result (λ v. map view_of v.items ≡ opened_stations 0 kinds.now counts.now) (λ f. f ≡ NoMemory) }
 {
-    let Ok(mut stations) = Vec::with_capacity(heap, kinds.len()) else {
-        return Err(Fault::NoMemory);
-    };
+    let mut stations = Vec::with_capacity(heap, kinds.len())?;
     let mut first = 0;
-    for (t, kind) in kinds.iter().enumerate() {
-        let count = counts[t] as usize;
-        stations.push_reserved(opened_station(first, *kind, count));
+    for (kind, count) in kinds.iter().zip(counts) {
+        let count = *count as usize;
+        stations.push_reserved(opened_station(first, kind_numbered(*kind), count));
         first += count;
     }
     Ok(stations)

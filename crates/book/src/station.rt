@@ -1,15 +1,16 @@
 //! A station's day: how far it has come, what it filed and revised, and what it owes.
-ghost use Rattle.std.specs.Prelude.{◌≡◌, ℕ, ◌-◌, ◌<◌, ◌≤◌, [], ◌∷◌, length, take, ℤ, Some};
-ghost use Rattle.book.specs.Causes.{bad_notice, high_values, used_slot, value_count, wrong_number};
+ghost use Rattle.std.specs.Prelude.{◌≡◌, ◌-◌, ◌≤◌, [], ◌∷◌, length};
+ghost use Rattle.book.specs.Causes.{revision_causes, used_slot, wrong_number};
 ghost use Rattle.book.specs.Questions.{progress_of};
 ghost use Rattle.book.specs.Refusals.{Checks, first};
 ghost use Rattle.book.specs.Sound.{Bounded};
-ghost use Rattle.book.specs.Stations.{available, drawn, due_of, filed_on, fresh, moves, paid, revised_in, settled_at, slot_of};
-ghost use Rattle.std.specs.Option.{unwrap_or};
+ghost use Rattle.book.specs.States.{wrong_phase};
+ghost use Rattle.book.specs.Stations.{available, drawn, due_of, filed_on, fresh, moved, moves, paid, revised_in, settled_at, slot_of};
 ghost use Rattle.units.specs.Bits.{count_of, last_of};
 
 use crate::answers::Progress;
 use crate::checks::{all_at_most, as_many};
+use arrayvec::ArrayVec;
 use posting::members::Members;
 use units::bits::BitSet;
 use units::fault::Fault;
@@ -63,7 +64,7 @@ impl Station {
     }
 
     /// The phase that an action leads to, if the station takes it in its phase.
-    pub fn next_phase(&self, action: Action) -> Option<Phase>
+    fn next_phase(&self, action: Action) -> Option<Phase>
         ensures { result ≡ moves self.now.phase action }
     {
         match (self.phase, action) {
@@ -78,6 +79,19 @@ impl Station {
             (Phase::Settled, Action::Correct) => Some(Phase::Settled),
             (Phase::Settled, Action::Ask) => Some(Phase::Settled),
             _ => None,
+        }
+    }
+
+    /// The station, which has number `t`, in the phase that the action leads to, if it takes the action in its phase.
+    pub fn moved(self, t: u64, action: Action) -> Result<Station, Fault>
+        ensures { Checks (wrong_phase action t self) (λ x. x ≡ moved action self) result }
+    {
+        match self.next_phase(action) {
+            Some(phase) => Ok(Station { phase, ..self }),
+            None => Err(Fault::WrongPhase {
+                station: t,
+                phase: self.phase,
+            }),
         }
     }
 
@@ -103,9 +117,9 @@ impl Station {
     pub fn slot(&self, notice: u64) -> Option<u8>
         ensures { result ≡ slot_of self.now.kind notice }
     {
-        match self.kind {
-            Kind::Wind if notice <= 92 => Some((notice / 6) as u8),
-            Kind::Solar if notice >= 22 && notice <= 75 => Some(((notice - 22) / 6) as u8),
+        match (self.kind, notice) {
+            (Kind::Wind, 0..=92) => Some((notice / 6) as u8),
+            (Kind::Solar, 22..=75) => Some(((notice - 22) / 6) as u8),
             _ => None,
         }
     }
@@ -136,12 +150,10 @@ impl Station {
         number: u64,
         notice: u64,
         values: &[u64],
-    ) -> Result<(u8, [u32; BLOCKS]), Fault>
-        ensures { Checks (first (bad_notice notice (slot_of self.now.kind notice) ∷ value_count (length values.now) (93 - notice) ∷ high_values 0 6400000 values.now ∷ wrong_number number (count_of self.now.slots.bits) ∷ used_slot (unwrap_or (slot_of self.now.kind notice) 0) (last_of self.now.slots.bits) ∷ [])) (λ x. (slot_of self.now.kind notice ≡ Some x.0) × (notice ≤ 92) × (length values.now ≡ 93 - notice) × (length x.1 ≡ 96) × (take (length values.now) x.1 ≡ values.now)) result }
+    ) -> Result<(u8, ArrayVec<u32, BLOCKS>), Fault>
+        ensures { Checks (first (revision_causes number notice values.now self.now)) (λ x. (slot_of self.now.kind notice ≡ Some x.0) × (notice ≤ 92) × (length values.now ≡ 93 - notice) × (x.1.items ≡ values.now)) result }
     {
-        let Some(slot) = self.slot(notice) else {
-            return Err(Fault::BadNotice { notice });
-        };
+        let slot = self.slot(notice).ok_or(Fault::BadNotice { notice })?;
         as_many(values.len(), 93 - notice)?;
         let schedule = all_at_most(STATION_KW, values)?;
         self.next_revision(number, slot)?;
@@ -162,6 +174,9 @@ impl Station {
         self.charges = charges;
     }
 
+    // What follows wants a station that is bounded. That is no fact of one station: how far it is behind is known only
+    // from its book, since the nets of all stations and the cash balance.
+
     /// What the station owes the pool, or the pool it where that is below zero.
     pub fn due(&self) -> i64
         requires { Bounded self.now }
@@ -175,8 +190,7 @@ impl Station {
         requires { Bounded self.now }
         ensures { result ≡ available self.now }
     {
-        let due = self.due();
-        if due < 0 { due.unsigned_abs() } else { 0 }
+        self.due().min(0).unsigned_abs()
     }
 
     pub fn pay(&mut self, amount: u64)

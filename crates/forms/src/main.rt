@@ -3,23 +3,16 @@
 
 use describe::describe_line;
 use std::io;
-use std::io::Read;
+use std::io::{BufReader, Read};
 
 /// How many bytes of a line are kept: one more than a line may have, so that a longer one is refused.
 const MOST_KEPT: usize = 1025;
 
 fn main(rt: HostRuntime) -> io::Result<()> {
-    let mut input = rt.stdin();
+    let input = BufReader::new(rt.alloc(), rt.stdin())?;
     let mut line = Vec::new(rt.alloc());
-    let mut buffer = [0u8; 4096];
-    for _ in 0..u64::MAX {
-        let count = input.read(&mut buffer)?;
-        if count == 0 {
-            break;
-        }
-        for byte in &buffer[0..count] {
-            take(&rt, &mut line, *byte)?;
-        }
+    for byte in input.bytes() {
+        take(&rt, &mut line, byte?)?;
     }
     if line.is_empty() {
         return Ok(());

@@ -46,7 +46,7 @@ named_back Open = refl
 pub one_head : (h k : Head) → name h ≡ name k → h ≡ k
 one_head h k e = sym (named_back h) ∙ ap head_named e ∙ named_back k
 
-name_word : (h : Head) → Word (name h)
+pub name_word : (h : Head) → Word (name h)
 name_word File = (refl, omega arith, omega arith)
 name_word Declare = (refl, omega arith, omega arith)
 name_word Issue = (refl, omega arith, omega arith)

@@ -341,7 +341,7 @@ complete f h =
 pub reads_form : (line : List ℕ) (f : Form) → outcome start line ≡ whole f → Sound f × (spelled f ≡ line)
 reads_form line f e = subst (Says start line) e (says start line tt)
 
-never : (o : Outcome) (f : Form) (k : ℕ) → o ≡ whole f → o ≡ stuck k → ⊥
+pub never : (o : Outcome) (f : Form) (k : ℕ) → o ≡ whole f → o ≡ stuck k → ⊥
 never o f k p q = let z : ◌≡◌ {A = ℕ} 0 1 = cc in omega arith
 
 pub not_form_lem : (line : List ℕ) (left : ℕ) → outcome start line ≡ stuck left → NotForm line (length line - left)

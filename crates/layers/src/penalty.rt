@@ -88,10 +88,7 @@ impl<T: Tariff> Penalty<T> {
         if query.station != self.station {
             return None;
         }
-        match self.due.blocks.get(usize::from(query.block)) {
-            Some(due) => *due,
-            None => None,
-        }
+        *self.due.blocks.get(usize::from(query.block))?
     }
 }
 

@@ -1,28 +1,24 @@
 -- Where the arguments do not fit the sorts.
-use Rattle.std.proofs.Common.{◌≡◌, ℕ, suc, ◌+◌, ◌-◌, ◌<◌, true, List, [], ◌∷◌, map, length, get_or, take, drop, sym, refl, ap, ◌∙◌, subst, add-one, arith}
-use Rattle.std.specs.List.{AllByRecursion}
+use Rattle.std.proofs.Common.{◌≡◌, ℕ, suc, ◌+◌, ◌-◌, ◌<◌, List, [], ◌∷◌, map, length, get_or, take, drop, sym, refl, ap, ◌∙◌, subst, add-one, arith, Some, None, Option, MatchOption, IsSomeAnd}
 use Rattle.std.proofs.lemmas.List.{take_rest}
 use Rattle.grammar.specs.Calls.{Misfit}
-use Rattle.tokens.specs.Tokens.{SoundPart}
-use Rattle.lines.specs.Arguments.{part_sort, is_of}
+use Rattle.lines.specs.Arguments.{part_sort}
 use Rattle.tokens.specs.declared.token.Part.{Part}
-use Rattle.tokens.specs.declared.token.Part.TheVariants.{Word, Number, List as Listed}
 use Rattle.grammar.specs.declared.heads.Sort.{Sort}
-use Rattle.grammar.specs.declared.heads.Sort.TheVariants.{Number as Single, List as Several}
 
 pub fit_none : (ts : List Part) (ss : List Sort) → length ts < 1 → length ss < 1 → map part_sort ts ≡ ss
 fit_none [] [] h k = refl
 fit_none [] (s ∷ ss) h k = absurd (omega arith)
 fit_none (t ∷ ts) ss h k = absurd (omega arith)
 
-pub fit_more : (ts : List Part) (ss : List Sort) (d : Part) (e : Sort) → 0 < length ts → 0 < length ss → part_sort (get_or ts 0 d) ≡ get_or ss 0 e → map part_sort (take (length ts - 1) (drop 1 ts)) ≡ take (length ss - 1) (drop 1 ss) → map part_sort ts ≡ ss
+fit_more : (ts : List Part) (ss : List Sort) (d : Part) (e : Sort) → 0 < length ts → 0 < length ss → part_sort (get_or ts 0 d) ≡ get_or ss 0 e → map part_sort (take (length ts - 1) (drop 1 ts)) ≡ take (length ss - 1) (drop 1 ss) → map part_sort ts ≡ ss
 fit_more [] ss d e h k same rest = absurd (omega arith)
 fit_more (t ∷ ts) [] d e h k same rest = absurd (omega arith)
 fit_more (t ∷ ts) (s ∷ ss) d e h k same rest =
     let r : map part_sort ts ≡ ss = ap (map part_sort) (sym (take_rest (t ∷ ts) 1)) ∙ rest ∙ take_rest (s ∷ ss) 1 in
     λ i. same i ∷ r i
 
-pub misfit_more : (ts : List Part) (ss : List Sort) (d : Part) (e : Sort) (p : ℕ) → 0 < length ts → 0 < length ss → part_sort (get_or ts 0 d) ≡ get_or ss 0 e → Misfit (map part_sort (take (length ts - 1) (drop 1 ts))) (take (length ss - 1) (drop 1 ss)) p → Misfit (map part_sort ts) ss (p + 1)
+misfit_more : (ts : List Part) (ss : List Sort) (d : Part) (e : Sort) (p : ℕ) → 0 < length ts → 0 < length ss → part_sort (get_or ts 0 d) ≡ get_or ss 0 e → Misfit (map part_sort (take (length ts - 1) (drop 1 ts))) (take (length ss - 1) (drop 1 ss)) p → Misfit (map part_sort ts) ss (p + 1)
 misfit_more [] ss d e p h k same rest = absurd (omega arith)
 misfit_more (t ∷ ts) [] d e p h k same rest = absurd (omega arith)
 misfit_more (t ∷ ts) (s ∷ ss) d e p h k same rest =
@@ -47,13 +43,9 @@ misfit_long [] ss h k = absurd (omega arith)
 misfit_long (t ∷ ts) (s ∷ ss) h k = absurd (omega arith)
 misfit_long (t ∷ ts) [] h k = record { counted = omega arith; before = refl; within = omega arith; here = λ e. absurd (omega (arith, ap length e)) }
 
-pub of_sort : (p : Part) (s : Sort) → is_of p s ≡ true → part_sort p ≡ s
-of_sort (Word w) s e = let z : ◌≡◌ {A = ℕ} 0 1 = cc in absurd (omega arith)
-of_sort (Number ds) Single e = refl
-of_sort (Number ds) Several e = let z : ◌≡◌ {A = ℕ} 0 1 = cc in absurd (omega arith)
-of_sort (Listed ns) Single e = let z : ◌≡◌ {A = ℕ} 0 1 = cc in absurd (omega arith)
-of_sort (Listed ns) Several e = refl
-
-pub sound_tail : (ps : List Part) → AllByRecursion SoundPart ps → AllByRecursion SoundPart (take (length ps - 1) (drop 1 ps))
-sound_tail [] a = a
-sound_tail (p ∷ ps) a = subst (AllByRecursion SoundPart) (sym (take_rest (p ∷ ps) 1)) a.1
+-- the first arguments are alike, and what is said of the others is one position earlier
+pub fitted : (ts : List Part) (ss : List Sort) (d : Part) (e : Sort) (C : ℕ → ℕ → Type 0) (r s : Option ℕ) → 0 < length ts → 0 < length ss → part_sort (get_or ts 0 d) ≡ get_or ss 0 e → MatchOption r (map part_sort (take (length ts - 1) (drop 1 ts)) ≡ take (length ss - 1) (drop 1 ss)) (Misfit (map part_sort (take (length ts - 1) (drop 1 ts))) (take (length ss - 1) (drop 1 ss))) → MatchOption r (s ≡ None) (λ p. IsSomeAnd s (C p)) → ((p q : ℕ) → C p q → q ≡ p + 1) → MatchOption s (map part_sort ts ≡ ss) (Misfit (map part_sort ts) ss)
+fitted ts ss d e C None None h k same rest is next = fit_more ts ss d e h k same rest
+fitted ts ss d e C None (Some q) h k same rest is next = let z : ◌≡◌ {A = ℕ} 0 1 = cc in absurd (omega arith)
+fitted ts ss d e C (Some p) None h k same rest is next = absurd is
+fitted ts ss d e C (Some p) (Some q) h k same rest is next = subst (Misfit (map part_sort ts) ss) (sym (next p q is)) (misfit_more ts ss d e p h k same rest)

@@ -1,4 +1,2 @@
 pub mod Arguments
-pub mod Asking
 pub mod Forms
-pub mod Wants

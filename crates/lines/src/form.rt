@@ -1,8 +1,13 @@
 //! Reads a line as a form.
-ghost use Rattle.std.specs.List.{AllByRecursion};
-ghost use Rattle.lines.specs.Arguments.{Readable};
-ghost use Rattle.lines.specs.Forms.{ReadsForm, Gathers};
+ghost use Rattle.std.specs.Prelude.{◌≡◌, map, MatchOption, ◌≢◌};
+ghost use Rattle.grammar.specs.Calls.{name, sorts};
+ghost use Rattle.tokens.specs.Tokens.{letters_of};
+ghost use Rattle.lines.specs.Arguments.{part_sort};
+ghost use Rattle.lines.specs.Forms.{ReadsForm, Fits};
 
+use super::arguments::misfit;
+use arrayvec::ArrayVec;
+use grammar::heads::Head;
 use tokens::reader::Reader;
 use tokens::token::{Part, Token};
 use units::fault::Fault;
@@ -10,12 +15,46 @@ use units::fault::Fault;
 /// The longest line that is read.
 pub const MOST_BYTES: usize = 1024;
 
-/// How many arguments are gathered: one more than any head takes, so that a surplus one shows.
+/// How many arguments are kept: one more than any head takes, so that a surplus one shows.
 pub const MOST_GATHERED: usize = 5;
 
-/// The head of the form that the line spells, and the number of its arguments;
-/// or where the line, if it is not too long, stops beginning a form.
-pub fn read_form<'a>(line: &'a [u8]) -> Result<(Token<'a>, usize), Fault>
+/// A line that is a form.
+#[derive(Drop)]
+pub struct Parts<'a> {
+    pub word: Token<'a>,
+    /// The first five arguments.
+    pub args: ArrayVec<Part<'a>, MOST_GATHERED>,
+    /// How many arguments there are, with those that are not kept.
+    pub count: usize,
+}
+
+impl Parts<'_> {
+    /// The head that the word spells.
+    pub(crate) fn head(&self) -> Option<Head>
+        ensures { MatchOption result ((h : Head) → letters_of self.now.word.part ≢ name h) (λ h. letters_of self.now.word.part ≡ name h) }
+    {
+        match self.word.part {
+            Part::Word(letters) => Head::named(letters),
+            Part::Number(_) | Part::List(_) => None,
+        }
+    }
+
+    /// Refuses the first argument that is missing, surplus or of the wrong sort.
+    pub(crate) fn fit(&self, head: Head) -> Result<(), Fault>
+        ensures { Fits (map part_sort self.now.args.items) (sorts head) result }
+    {
+        match misfit(&self.args, head.sorts()) {
+            Some(position) => Err(Fault::BadArgument {
+                position: position as u64,
+            }),
+            None => Ok(()),
+        }
+    }
+}
+
+/// The form that the line spells; or where the line, if it is not too long, stops beginning a form.
+/// No memory is asked for.
+pub fn read_form<'a>(line: &'a [u8]) -> Result<Parts<'a>, Fault>
     ensures { ReadsForm line.now result }
 {
     if line.len() > MOST_BYTES {
@@ -24,33 +63,14 @@ pub fn read_form<'a>(line: &'a [u8]) -> Result<(Token<'a>, usize), Fault>
         });
     }
     let mut reader = Reader::new(line);
-    let head = reader.word()?;
+    let word = reader.word()?;
+    let mut args = ArrayVec::new();
     let mut count = 0;
-    while let Some(_token) = reader.next()? {
+    while let Some(token) = reader.next()? {
+        if !args.is_full() {
+            args.push(token.part);
+        }
         count += 1;
     }
-    Ok((head, count))
-}
-
-/// The first five arguments of a line that is a form, and words behind its last argument. No memory is asked for.
-pub fn arguments<'a>(line: &'a [u8]) -> [Part<'a>; MOST_GATHERED]
-    ensures gathers { Gathers line.now result }
-    ensures readable { AllByRecursion Readable result }
-{
-    let mut parts = [Part::Word(line); MOST_GATHERED];
-    let mut reader = Reader::new(line);
-    let Ok(_head) = reader.word() else {
-        return parts;
-    };
-    let mut count = 0;
-    while let Ok(next) = reader.next() {
-        let Some(token) = next else {
-            break;
-        };
-        if count < MOST_GATHERED {
-            parts[count] = token.part;
-            count += 1;
-        }
-    }
-    parts
+    Ok(Parts { word, args, count })
 }

@@ -1,61 +1,35 @@
 //! Reads a line as a call, or as the opening of a book.
-ghost use Rattle.std.specs.Prelude.{◌≡◌, false, map, length, MatchResult};
+ghost use Rattle.std.specs.Prelude.{◌≡◌, true, map, MatchResult};
 ghost use Rattle.std.specs.List.{AllByRecursion};
-ghost use Rattle.grammar.specs.Calls.{asked, opens};
-ghost use Rattle.grammar.specs.Calls.{sorts as sortsOf};
-ghost use Rattle.grammar.specs.Reads.{has_list, ReadsCall, ReadsOpening};
+ghost use Rattle.grammar.specs.Calls.{asked, opens, sorts};
+ghost use Rattle.grammar.specs.Reads.{calls, has_list, openings, ReadsCall, ReadsOpening};
+ghost use Rattle.grammar.specs.declared.heads.Head.TheVariants.{Open};
 ghost use Rattle.units.specs.declared.fault.Fault.TheVariants.{NoMemory};
-ghost use Rattle.lines.specs.Asking.{Answers};
-ghost use Rattle.tokens.specs.Tokens.{arg_of};
-ghost use Rattle.lines.specs.Arguments.{Readable, list_of, first_numbers, numbered, listed};
+ghost use Rattle.tokens.specs.Tokens.{arg_of, SoundPart};
+ghost use Rattle.lines.specs.Arguments.{asks};
 
-use super::form::{MOST_GATHERED, arguments, read_form};
-use super::heads::{misfit, sorts, wanted_head};
-use super::values::{list_of, number_of};
+use super::form::read_form;
+use super::values::{list_at, numbers};
 use grammar::heads::Head;
 use std::alloc::Global;
 use tokens::token::Part;
 use units::call::{Call, Opening};
 use units::fault::Fault;
 
-/// The head of the line: only `open` where an opening is wanted, any other where a call is. The arguments fit it.
-/// All that a line can be refused for is tested here, but for want of memory.
-fn fitting_head(line: &[u8], opening: bool) -> Result<Head, Fault>
-    ensures { Answers opening line.now result }
+fn is_opening(head: &Head) -> bool
+    ensures { result ≡ openings head.now }
 {
-    let (word, count) = read_form(line)?;
-    let Some(head) = wanted_head(word, opening) else {
-        return Err(Fault::UnknownHead);
-    };
-    let parts = arguments(line);
-    match misfit(&parts[0..count.min(MOST_GATHERED)], sorts(head)) {
-        Some(position) => Err(Fault::BadArgument {
-            position: position as u64,
-        }),
-        None => Ok(head),
-    }
+    matches!(head, Head::Open)
 }
 
-/// The numbers that the first four arguments are, and 0 for what is none.
-fn numbers(parts: &[Part]) -> [u64; 4]
-    requires { (length parts.now ≡ 5) × (AllByRecursion Readable parts.now) }
-    ensures { result ≡ first_numbers (map arg_of parts.now) }
+/// The call with this head and these arguments, which fit it.
+fn call_of(heap: Global, head: Head, args: &[Part]) -> Result<Call, Fault>
+    requires call { calls head ≡ true }
+    requires sound { AllByRecursion SoundPart args.now }
+    ensures { MatchResult result (λ call. asked call ≡ asks head (map arg_of args.now)) (λ e. (e ≡ NoMemory) × (has_list (sorts head) ≡ true)) }
 {
-    [
-        number_of(parts[0]),
-        number_of(parts[1]),
-        number_of(parts[2]),
-        number_of(parts[3]),
-    ]
-}
-
-/// The call with this head, whose arguments are all numbers.
-fn call_of(head: Head, numbers: [u64; 4]) -> Call
-    requires { has_list (sortsOf head) ≡ false }
-    ensures { asked result ≡ numbered head numbers }
-{
-    let [a, b, c, d] = numbers;
-    match head {
+    let [a, b, c, d] = numbers(args);
+    Ok(match head {
         Head::File => Call::File {
             station: a,
             from: b,
@@ -69,6 +43,12 @@ fn call_of(head: Head, numbers: [u64; 4]) -> Call
             kw: d,
         },
         Head::Issue => Call::Issue { station: a },
+        Head::Revise => Call::Revise {
+            station: a,
+            number: b,
+            notice: c,
+            values: list_at(heap, args, 3)?,
+        },
         Head::Close => Call::Close { station: a },
         Head::Read => Call::Read {
             generator: a,
@@ -90,8 +70,8 @@ fn call_of(head: Head, numbers: [u64; 4]) -> Call
             station: a,
             amount: b,
         },
-        Head::Revise | Head::Open => unreachable(),
-    }
+        Head::Open => unreachable(),
+    })
 }
 
 /// The call that the line asks for.
@@ -101,31 +81,23 @@ fn call_of(head: Head, numbers: [u64; 4]) -> Call
 pub fn read_call(heap: Global, line: &[u8]) -> Result<Call, Fault>
     ensures { ReadsCall line.now result }
 {
-    let head = fitting_head(line, false)?;
-    let parts = arguments(line);
-    let numbers = numbers(&parts);
-    if let Head::Revise = head {
-        let [station, number, notice, _] = numbers;
-        let values = list_of(heap, parts[3])?;
-        return Ok(Call::Revise {
-            station,
-            number,
-            notice,
-            values,
-        });
-    }
-    Ok(call_of(head, numbers))
+    let parts = read_form(line)?;
+    let Some(head) = parts.head().filter(|head| !is_opening(head)) else {
+        return Err(Fault::UnknownHead);
+    };
+    parts.fit(head)?;
+    call_of(heap, head, &parts.args)
 }
 
-/// The opening with these lists.
-fn opening_of(heap: Global, kinds: Part, counts: Part, installed: Part) -> Result<Opening, Fault>
-    requires { (Readable kinds) × ((Readable counts) × (Readable installed)) }
-    ensures { MatchResult result (λ o. opens o ≡ listed (list_of (arg_of kinds.entry)) (list_of (arg_of counts.entry)) (list_of (arg_of installed.entry))) (λ e. e ≡ NoMemory) }
+/// The opening with these arguments.
+fn opening_of(heap: Global, args: &[Part]) -> Result<Opening, Fault>
+    requires { AllByRecursion SoundPart args.now }
+    ensures { MatchResult result (λ o. opens o ≡ asks Open (map arg_of args.now)) (λ e. e ≡ NoMemory) }
 {
     Ok(Opening {
-        kinds: list_of(heap, kinds)?,
-        counts: list_of(heap, counts)?,
-        installed: list_of(heap, installed)?,
+        kinds: list_at(heap, args, 0)?,
+        counts: list_at(heap, args, 1)?,
+        installed: list_at(heap, args, 2)?,
     })
 }
 
@@ -133,7 +105,10 @@ fn opening_of(heap: Global, kinds: Part, counts: Part, installed: Part) -> Resul
 pub fn read_opening(heap: Global, line: &[u8]) -> Result<Opening, Fault>
     ensures { ReadsOpening line.now result }
 {
-    let _head = fitting_head(line, true)?;
-    let [kinds, counts, installed, _, _] = arguments(line);
-    opening_of(heap, kinds, counts, installed)
+    let parts = read_form(line)?;
+    let Some(head) = parts.head().filter(|head| is_opening(head)) else {
+        return Err(Fault::UnknownHead);
+    };
+    parts.fit(head)?;
+    opening_of(heap, &parts.args)
 }

@@ -1,13 +1,14 @@
 //! The numbers that the arguments of a form write.
 ghost use Rattle.std.specs.Prelude.{◌≡◌, [], map, IfOk, MatchResult};
+ghost use Rattle.std.specs.List.{AllByRecursion};
 ghost use Rattle.grammar.specs.Calls.{read_on, pieces};
 ghost use Rattle.grammar.specs.Grammar.{Numeral, Numbers};
 ghost use Rattle.units.specs.declared.fault.Fault.TheVariants.{NoMemory};
-ghost use Rattle.tokens.specs.Tokens.{arg_of};
-ghost use Rattle.lines.specs.Arguments.{Readable, number_of, list_of};
+ghost use Rattle.tokens.specs.Tokens.{arg_of, SoundPart};
+ghost use Rattle.lines.specs.Arguments.{number_at, list_at, first_numbers};
 
 use std::alloc::{AllocError, Global};
-use tokens::parts::{number, past_space};
+use std::array;
 use tokens::token::Part;
 use units::fault::Fault;
 
@@ -16,11 +17,7 @@ fn value(digits: &[u8]) -> u64
     requires { Numeral digits.now }
     ensures { result ≡ read_on 0 digits.now }
 {
-    let mut n = 0;
-    for d in digits {
-        n = 10 * n + u64::from(*d - b'0');
-    }
-    n
+    digits.iter().fold(0, |n, d| 10 * n + u64::from(*d - b'0'))
 }
 
 /// The numbers that stand with one space between.
@@ -28,39 +25,35 @@ fn values(heap: Global, numbers: &[u8]) -> Result<Vec<u64>, AllocError>
     requires { Numbers 96 numbers.now }
     ensures { IfOk result (λ v. v.items ≡ map (read_on 0) (pieces [] numbers.now)) }
 {
-    let mut values = Vec::new(heap);
-    let mut rest = numbers;
-    while let Some((digits, after)) = number(rest) {
-        values.push(value(digits))?;
-        match past_space(after) {
-            Some(tail) => rest = tail,
-            None => break,
-        }
-    }
-    Ok(values)
+    numbers.split(|b| *b == b' ').map(value).collect(heap)
 }
 
-/// The number that the part is, or 0.
-pub fn number_of(part: Part) -> u64
-    requires { Readable part }
-    ensures { result ≡ number_of (arg_of part.entry) }
+/// The number that the argument at this place is, or 0.
+fn number_at(args: &[Part], place: usize) -> u64
+    requires { AllByRecursion SoundPart args.now }
+    ensures { result ≡ number_at (map arg_of args.now) place }
 {
-    match part {
-        Part::Number(digits) => value(digits),
-        Part::Word(_) | Part::List(_) => 0,
+    match args.get(place) {
+        Some(Part::Number(digits)) => value(digits),
+        _ => 0,
     }
 }
 
-/// The numbers of the list that the part is, or none.
-pub fn list_of(heap: Global, part: Part) -> Result<Vec<u64>, Fault>
-    requires { Readable part }
-    ensures { MatchResult result (λ v. v.items ≡ list_of (arg_of part.entry)) (λ e. e ≡ NoMemory) }
+/// The numbers that the first four arguments are, and 0 for what is none.
+pub fn numbers(args: &[Part]) -> [u64; 4]
+    requires { AllByRecursion SoundPart args.now }
+    ensures { result ≡ first_numbers (map arg_of args.now) }
 {
-    let Part::List(numbers) = part else {
-        return Ok(Vec::new(heap));
-    };
-    match values(heap, numbers) {
-        Ok(list) => Ok(list),
-        Err(_) => Err(Fault::NoMemory),
+    array::from_fn(|place| number_at(args, place))
+}
+
+/// The numbers of the list that the argument at this place is, or none.
+pub fn list_at(heap: Global, args: &[Part], place: usize) -> Result<Vec<u64>, Fault>
+    requires { AllByRecursion SoundPart args.now }
+    ensures { MatchResult result (λ v. v.items ≡ list_at (map arg_of args.now) place) (λ e. e ≡ NoMemory) }
+{
+    match args.get(place) {
+        Some(Part::List(numbers)) => Ok(values(heap, numbers)?),
+        _ => Ok(Vec::new(heap)),
     }
 }

@@ -80,15 +80,8 @@ module _ (first first' k : ℕ) (f : ℕ → Account → Account) (old cur after
       let beyond : length old ≤ first + k = rw (inv, length_changed, same) at past in
       is ∙ inv ∙ changed_past first f old k beyond
 
-same_from : (first count : ℕ) (f g : ℕ → Account → Account) → ((k : ℕ) (a : Account) → f k a ≡ g k a) → (n : ℕ) (xs : List Account) → changed_from first count f n xs ≡ changed_from first count g n xs
-same_from first count f g same n [] = refl
-same_from first count f g same n (x ∷ xs) = let here = same (n - first) x in let rest = same_from first count f g same (n + 1) xs in cc
-
 pub changed_same : (first count : ℕ) (f g : ℕ → Account → Account) → ((k : ℕ) (a : Account) → f k a ≡ g k a) → (xs : List Account) → changed first count f xs ≡ changed first count g xs
-changed_same first count f g same xs = same_from first count f g same 0 xs
-
-pub same_account : {i : ℕ} {a b c d : ℤ} → a ≡ b → c ≡ d → ◌≡◌ {A = Account} (record { installed = i; money = a; energy = c }) (record { installed = i; money = b; energy = d })
-same_account p q = cc
+changed_same first count f g same xs = λ i. changed first count (λ k a. same k a i) xs
 
 with_installed : {i j : ℕ} {a b : ℤ} → i ≡ j → ◌≡◌ {A = Account} (record { installed = i; money = a; energy = b }) (record { installed = j; money = a; energy = b })
 with_installed p = cc

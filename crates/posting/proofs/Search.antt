@@ -18,17 +18,14 @@ module _ (rs : List (Option ℕ)) (ex : Option Place) where
   from_none m b h = let left : 96 - b ≡ 0 = omega arith in ap (missing_from rs ex m b) left
 
   -- one generator of those that are left
-  in_more : (b g k n : ℕ) → k < n → missing_in rs ex b (g + k) (n - k) ≡ cond (missing_at rs ex (g + k) b) (Some (record { generator = g + k; block = b })) (missing_in rs ex b (g + (k + 1)) (n - (k + 1)))
-  in_more b g k n h =
-      let count : n - k ≡ suc (n - (k + 1)) = omega arith in
-      let next : g + k + 1 ≡ g + (k + 1) = omega arith in
-      ap (missing_in rs ex b (g + k)) count ∙ ap (λ j. cond (missing_at rs ex (g + k) b) (Some (record { generator = g + k; block = b })) (missing_in rs ex b j (n - (k + 1)))) next
+  in_more : (b g end : ℕ) → g < end → missing_in rs ex b g (end - g) ≡ cond (missing_at rs ex g b) (Some (record { generator = g; block = b })) (missing_in rs ex b (g + 1) (end - (g + 1)))
+  in_more b g end h = let left : end - g ≡ suc (end - (g + 1)) = omega arith in ap (missing_in rs ex b g) left
 
-  pub in_no : (b g k n : ℕ) → k < n → missing_at rs ex (g + k) b ≡ false → missing_in rs ex b (g + k) (n - k) ≡ missing_in rs ex b (g + (k + 1)) (n - (k + 1))
-  in_no b g k n h is = in_more b g k n h ∙ cond-false _ _ _ is
+  pub in_no : (b g end : ℕ) → g < end → missing_at rs ex g b ≡ false → missing_in rs ex b g (end - g) ≡ missing_in rs ex b (g + 1) (end - (g + 1))
+  in_no b g end h is = in_more b g end h ∙ cond-false _ _ _ is
 
-  pub in_yes : (b g k n : ℕ) → k < n → missing_at rs ex (g + k) b ≡ true → missing_in rs ex b (g + k) (n - k) ≡ Some (record { generator = g + k; block = b })
-  in_yes b g k n h is = in_more b g k n h ∙ cond-true _ _ _ is
+  pub in_yes : (b g end : ℕ) → g < end → missing_at rs ex g b ≡ true → missing_in rs ex b g (end - g) ≡ Some (record { generator = g; block = b })
+  in_yes b g end h is = in_more b g end h ∙ cond-true _ _ _ is
 
   -- of n generators from g on, one that lacks a reading in the block b and before which none does, or none at all
   abbrev InBlock : ℕ → ℕ → ℕ → Option Place → Type 0

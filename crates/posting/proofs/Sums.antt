@@ -1,37 +1,17 @@
 -- Signed sums of a day.
-use Rattle.std.proofs.Common.{◌≡◌, ℕ, zero, suc, ◌+◌, ◌*◌, ◌<◌, ◌≤◌, ◌≢◌, List, length, get_or, take, set, ℤ, pos, ◌+ℤ◌, nat_abs, sum, sym, refl, ap, ◌∙◌, inl, inr, add-one, arith, w64, to_z, of_z, below_more}
-use Rattle.posting.proofs.Blocks.{block_alive, length_loads}
+use Rattle.std.proofs.Common.{◌≡◌, ℕ, zero, suc, ◌+◌, ◌*◌, ◌<◌, ◌≤◌, List, length, get_or, replicate, take, ℤ, pos, ◌+ℤ◌, nat_abs, sum, sym, refl, ap, ◌∙◌, add-one, arith, w64, to_z, of_z}
+use Rattle.posting.proofs.Blocks.{block_alive, length_loads, same_amounts}
+use Rattle.posting.specs.Amounts.{amounts_at, no_amounts, plus, Within}
 use Rattle.posting.specs.Days.{sum_to}
 use Rattle.posting.specs.Sheets.{Sheet, weights_at}
+use Rattle.share.specs.declared.amounts.Amounts.{Amounts}
 use Rattle.posting.specs.declared.members.Members.{Members}
 use Rattle.share.proofs.Fairness.{part_all, part_none, share_at, share_small}
-use Rattle.share.specs.Keys.{weights}
+use Rattle.share.specs.Keys.{NeverVanish}
 use Rattle.share.specs.Shares.{shares, part}
 use Rattle.share.specs.declared.load.Load.{Load}
-use Rattle.std.proofs.lemmas.List.{get_or_past, get_or-set_other, get_or-set_same, length-map, take_all}
+use Rattle.std.proofs.lemmas.List.{length-map, take_all}
 use Rattle.std.proofs.lemmas.Int.{ints}
-use Rattle.std.proofs.lemmas.Bool.{cases_lt}
-use Rattle.std.specs.List.{AllByRecursion}
-
--- a sum of small numbers, as the code computes it
-pub sum_computed : (a b : ℤ) → nat_abs a ≤ 9000000000000 → nat_abs b ≤ 64000000000 → to_z w64 (of_z w64 (to_z w64 (of_z w64 a) +ℤ to_z w64 (of_z w64 b))) ≡ a +ℤ b
-sum_computed a b p q = omega (arith, ints)
-
--- shares added to sums one by one: those below k are done, and the others as they were
-module _ (old cur more : List ℤ) (k : ℕ) (rest : (j : ℕ) → k ≤ j → get_or cur j (pos 0) ≡ get_or old j (pos 0)) where
-  pub added_more : (x : ℤ) → k < length cur → ((j : ℕ) → j < k → get_or cur j (pos 0) ≡ get_or old j (pos 0) +ℤ get_or more j (pos 0)) → x ≡ get_or cur k (pos 0) +ℤ get_or more k (pos 0)
-      → (j : ℕ) → j < k + 1 → get_or (set cur k x) j (pos 0) ≡ get_or old j (pos 0) +ℤ get_or more j (pos 0)
-  added_more x here done is = below_more _ _
-      (λ j h. let ne : j ≢ k = omega arith in rw get_or-set_other (done j h))
-      (rw get_or-set_same (is ∙ ap (λ z. z +ℤ get_or more k (pos 0)) (rest k (omega arith))))
-
-  pub rest_more : (x : ℤ) (j : ℕ) → k + 1 ≤ j → get_or (set cur k x) j (pos 0) ≡ get_or old j (pos 0)
-  rest_more x j h = let ne : j ≢ k = omega arith in rw get_or-set_other (rest j (omega arith))
-
-  pub added_all : length more ≤ k → ((j : ℕ) → j < k → get_or cur j (pos 0) ≡ get_or old j (pos 0) +ℤ get_or more j (pos 0))
-      → (j : ℕ) → get_or cur j (pos 0) ≡ get_or old j (pos 0) +ℤ get_or more j (pos 0)
-  added_all few done j =
-      elim (cases_lt j k) [ inl h ↦ done j h | inr h ↦ rest j h ∙ omega (arith, ints, get_or_past more j (pos 0) (omega arith)) ]
 
 pub sum_to_none : (f : ℕ → ℤ) → sum_to f 0 ≡ pos 0
 unfolding sum_to
@@ -50,6 +30,26 @@ sum_more f b old x new p small q least r = (omega (arith, ints, p, q, r, sum_to_
 pub charge_more : (f : ℕ → ℤ) (b : ℕ) (old x : ℤ) → b < 96 → old ≡ sum_to f b → nat_abs old ≤ b * 64000000000 → x ≡ f b → nat_abs x ≤ 64000000000
     → (to_z w64 (of_z w64 (old +ℤ to_z w64 (of_z w64 x))) ≡ sum_to f (b + 1)) × (nat_abs (to_z w64 (of_z w64 (old +ℤ to_z w64 (of_z w64 x)))) ≤ (b + 1) * 64000000000)
 charge_more f b old x h p small q least = sum_more f b old x _ p small q least (omega (arith, ints))
+
+-- the sums that a generator has of the blocks before, and of one block more
+pub shares_none : (f g : ℕ → ℤ) → no_amounts ≡ record { money = sum_to f 0; energy = sum_to g 0 }
+shares_none f g = same_amounts (sym (sum_to_none f)) (sym (sum_to_none g))
+
+pub shares_more : (f g : ℕ → ℤ) (b : ℕ) (old x new : Amounts) → old ≡ record { money = sum_to f b; energy = sum_to g b } → Within (b * 64000000000) old
+    → x ≡ record { money = f b; energy = g b } → Within 64000000000 x → new ≡ plus old x
+    → (new ≡ record { money = sum_to f (b + 1); energy = sum_to g (b + 1) }) × Within ((b + 1) * 64000000000) new
+shares_more f g b old x new p small q least r =
+    let money = sum_more f b old.money x.money new.money (ap (λ a. a.money) p) small.0 (ap (λ a. a.money) q) least.0 (ap (λ a. a.money) r) in
+    let energy = sum_more g b old.energy x.energy new.energy (ap (λ a. a.energy) p) small.1 (ap (λ a. a.energy) q) least.1 (ap (λ a. a.energy) r) in
+    (same_amounts money.0 energy.0, (money.1, energy.1))
+
+pub within_none : (limit : ℕ) (a : Amounts) → a ≡ no_amounts → Within limit a
+within_none limit a e = rw e (omega arith, omega arith)
+
+pub none_yet : (n k : ℕ) (a : Amounts) → a ≡ no_amounts → get_or (replicate n a) k no_amounts ≡ no_amounts
+none_yet zero k a e = refl
+none_yet (suc n) zero a e = e
+none_yet (suc n) (suc k) a e = none_yet n k a e
 
 sum_to_same : (f g : ℕ → ℤ) (n : ℕ) → ((k : ℕ) → k < n → f k ≡ g k) → sum_to f n ≡ sum_to g n
 unfolding sum_to
@@ -88,7 +88,7 @@ all_shares m ws n e h =
     first_shares m ws n (omega arith) ∙ ap (λ xs. part m (sum xs) (sum ws)) (take_all n ws (omega arith)) ∙ part_all m (sum ws) h
 
 -- what the generators of a station get of the 96 blocks adds up to the station's amounts
-pub day_whole : (w : Load → Load → ℕ) → ((ls : List Load) → 0 < length ls → AllByRecursion (λ l. 0 < l.installed) ls → 0 < sum (weights w ls))
+pub day_whole : (w : Load → Load → ℕ) → NeverVanish w
     → (s : Sheet) (m : Members) (amount got : ℕ → ℤ)
     → ((k : ℕ) → k < m.count → got k ≡ sum_to (λ b. get_or (shares (amount b) (weights_at w s m b)) k (pos 0)) 96)
     → sum_to got m.count ≡ sum_to amount 96
@@ -102,3 +102,9 @@ day_whole w alive s m amount got each =
 -- a share of a block's amount, with the amount's bound
 pub share_kept : (m amount : ℤ) (ws : List ℕ) (k limit : ℕ) (x : ℤ) → m ≡ amount → x ≡ get_or (shares amount ws) k (pos 0) → nat_abs m ≤ limit → nat_abs x ≤ limit
 share_kept m amount ws k limit x e is small = rw (is, sym e) (omega (arith, share_small m ws k))
+
+-- a block's shares are no further from zero than its figures
+pub split_within : (figures : Amounts) (ws : List ℕ) (money energy : List ℤ) (k : ℕ) → Within 64000000000 figures → money ≡ shares figures.money ws → energy ≡ shares figures.energy ws
+    → Within 64000000000 (amounts_at money energy k)
+split_within figures ws money energy k small p q =
+    (rw p (omega (arith, small.0, share_small figures.money ws k)), rw q (omega (arith, small.1, share_small figures.energy ws k)))

@@ -1,3 +1,4 @@
+pub mod Amounts
 pub mod Members
 pub mod Sheets
 pub mod Days

@@ -45,15 +45,18 @@ loads_from s b g (suc n) = load_at s g b ∷ loads_from s b (g + 1) n
 abbrev pub loads_at : Sheet → Members → ℕ → List Load
 loads_at s m b = loads_from s b m.first m.count
 
--- what a tariff is asked of the station t in the block b
-abbrev pub query_at : Sheet → ℕ → Members → ℕ → Query
-query_at s t m b = record {
+-- what a tariff is asked of the station t in the block b, where its generators have these loads
+abbrev pub query_of : List ℕ → ℕ → ℕ → List Load → Query
+query_of schedules t b ls = record {
   station = t;
   block = b;
-  schedule = schedule_entry_at s.schedules t b;
-  actual = (totals (loads_at s m b)).actual;
-  capacity = (totals (loads_at s m b)).capacity;
+  schedule = schedule_entry_at schedules t b;
+  actual = (totals ls).actual;
+  capacity = (totals ls).capacity;
 }
+
+abbrev pub query_at : Sheet → ℕ → Members → ℕ → Query
+query_at s t m b = query_of s.schedules t b (loads_at s m b)
 
 abbrev pub deviation_at : Sheet → ℕ → Members → ℕ → ℤ
 deviation_at s t m b = deviation_of (query_at s t m b)

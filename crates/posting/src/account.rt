@@ -1,8 +1,11 @@
 //! What a generator gets of a day.
-ghost use Rattle.std.specs.Prelude.{◌≡◌};
+ghost use Rattle.std.specs.Prelude.{◌≡◌, pos};
+ghost use Rattle.posting.specs.Amounts.{with_amounts};
+
+use crate::amounts::Amounts;
 
 /// A generator's installed power, in kW, and its shares of the day's charges, in paise, and of the day's deviations.
-#[derive(Clone, Copy)]
+#[derive(Clone, Copy, PartialEq, Eq, Debug)]
 pub struct Account {
     pub installed: u32,
     pub money: i64,
@@ -10,11 +13,22 @@ pub struct Account {
 }
 
 impl Account {
-    /// Puts a day's sums in the place of what stood there.
-    pub fn post(&mut self, money: i64, energy: i64)
-        ensures { self.new ≡ record { installed = self.old.installed; money = money; energy = energy } }
+    /// The account of a generator to which no day is posted yet.
+    pub fn new(installed: u32) -> Account
+        ensures { result ≡ record { installed = installed; money = pos 0; energy = pos 0 } }
     {
-        self.money = money;
-        self.energy = energy;
+        Account {
+            installed,
+            money: 0,
+            energy: 0,
+        }
+    }
+
+    /// Puts a day's sums in the place of what stood there.
+    pub fn post(&mut self, sums: Amounts)
+        ensures { self.new ≡ with_amounts sums self.old }
+    {
+        self.money = sums.money;
+        self.energy = sums.energy;
     }
 }

@@ -2,6 +2,7 @@
 #![tactic(auto)]
 
 pub mod account;
+pub mod amounts;
 pub mod block;
 pub mod day;
 pub mod members;

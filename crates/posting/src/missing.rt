@@ -1,21 +1,11 @@
 //! The first reading that a day lacks.
 ghost use Rattle.std.specs.Prelude.{◌≡◌, ◌<◌};
-ghost use Rattle.posting.specs.Missing.{first_missing_of, FirstMissing, is_place, missing_at};
+ghost use Rattle.posting.specs.Missing.{first_missing_of, FirstMissing, missing_at};
 
 use crate::members::Members;
 use crate::pages::entry_or;
 use crate::place::Place;
 use units::limits::BLOCKS;
-
-/// Whether a place is the one that is not needed.
-fn is_excepted(except: Option<Place>, place: Place) -> bool
-    ensures { result ≡ is_place except place.generator place.block }
-{
-    match except {
-        Some(other) => other.generator == place.generator && other.block == place.block,
-        None => false,
-    }
-}
 
 /// Whether a reading is needed and is not on the page.
 fn is_missing(readings: &[Option<u32>], except: Option<Place>, place: Place) -> bool
@@ -24,7 +14,7 @@ fn is_missing(readings: &[Option<u32>], except: Option<Place>, place: Place) -> 
     ensures { result ≡ missing_at readings.now except place.generator place.block }
 {
     let at = BLOCKS * place.generator + place.block;
-    entry_or(readings, at, None).is_none() && !is_excepted(except, place)
+    entry_or(readings, at, None).is_none() && except != Some(place)
 }
 
 /// The first block in which a station's reading is missing, and in it the first such generator.
@@ -39,11 +29,8 @@ pub fn first_missing(
 {
     let mut missing = None;
     'blocks: for block in 0..BLOCKS {
-        for k in 0..members.count() {
-            let place = Place {
-                generator: members.first() + k,
-                block,
-            };
+        for generator in members.first()..members.end() {
+            let place = Place { generator, block };
             if is_missing(readings, except, place) {
                 missing = Some(place);
                 break 'blocks;

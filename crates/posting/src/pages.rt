@@ -1,10 +1,10 @@
 //! The pages of a day, as they are lent: plain numbers, used from the front.
 ghost use Rattle.std.specs.Prelude.{◌≡◌, ◌<◌, slice_index, slice_index_or};
-ghost use Rattle.posting.specs.Days.{no_account};
 ghost use Rattle.posting.specs.Sheets.{installed_of, load_at, schedule_entry_at, sheet_of};
 
 use crate::account::Account;
 use share::generator::Generator;
+use share::load::Load;
 use units::limits::{BLOCKS, STATION_KW};
 
 /// Schedules, 96 a station; capacities and readings, 96 a generator. A reading is there or not.
@@ -19,28 +19,14 @@ pub struct Pages<'a> {
 pub fn entry_or<T: Copy>(page: &[T], at: usize, past: T) -> T
     ensures { result ≡ slice_index_or page.now at past }
 {
-    if at < page.len() { page[at] } else { past }
-}
-
-/// What stands past the end of a page of accounts.
-const NO_ACCOUNT: Account = Account {
-    installed: 0,
-    money: 0,
-    energy: 0,
-};
-
-/// The account of a generator, or an empty one past the end of the page.
-fn account_at(accounts: &[Account], generator: usize) -> Account
-    ensures { result ≡ slice_index_or accounts.now generator no_account }
-{
-    entry_or(accounts, generator, NO_ACCOUNT)
+    page.get(at).copied().unwrap_or(past)
 }
 
 /// The installed power on a page of accounts, or zero past its end.
 pub fn installed_at(accounts: &[Account], generator: usize) -> u32
     ensures { result ≡ slice_index (installed_of accounts.now) generator }
 {
-    account_at(accounts, generator).installed
+    entry_or(accounts, generator, Account::new(0)).installed
 }
 
 impl Pages<'_> {
@@ -67,11 +53,10 @@ impl Pages<'_> {
         ensures { result.load ≡ load_at (sheet_of self.now accounts.now) generator block }
     {
         let at = BLOCKS * generator + usize::from(block);
-        let actual = entry_or(self.readings, at, None).unwrap_or(0);
-        Generator::new(
-            installed_at(accounts, generator),
-            entry_or(self.capacities, at, 0),
-            actual,
-        )
+        Generator::new(Load {
+            actual: entry_or(self.readings, at, None).unwrap_or(0),
+            capacity: entry_or(self.capacities, at, 0),
+            installed: installed_at(accounts, generator),
+        })
     }
 }

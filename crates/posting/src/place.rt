@@ -1,7 +1,7 @@
 //! A place on the pages.
 
 /// A generator, by its number through all stations, in a block.
-#[derive(Clone, Copy)]
+#[derive(Clone, Copy, PartialEq, Eq)]
 pub struct Place {
     pub generator: usize,
     pub block: usize,

@@ -11,12 +11,12 @@ use Rattle.quoting.specs.declared.entry.TariffName.TheVariants.{Bands}
 use Rattle.quoting.specs.declared.request.Request.{Request}
 use Rattle.share.specs.Loads.{loads}
 use Rattle.std.specs.Option.{option_map, unwrap_or}
-use Rattle.std.specs.Prelude.{◌≡◌, take, Some, None, Result, MatchResult}
+use Rattle.std.specs.Prelude.{◌≡◌, Some, None, Result, MatchResult}
 use Rattle.tariff.specs.declared.banded.Banded.TheVariants.{From10}
 
 abbrev pub given_in : Draft → Given
 given_in d =
-    record { tariff = option_map name_of d.tariff; key = d.key; schedule = d.schedule; loads = loads (take d.count d.generators) }
+    record { tariff = option_map name_of d.tariff; key = d.key; schedule = d.schedule; loads = loads d.generators.items }
 
 -- A draft takes the entry e where no test fails, and is unchanged where one does.
 abbrev pub Added : Draft → Entry → Result (Unit {0}) Cause → Draft → Type 0

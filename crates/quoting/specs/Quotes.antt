@@ -1,6 +1,7 @@
 -- What a block costs a station, and what each of its generators bears.
-use Rattle.std.specs.Prelude.{◌≡◌, ℕ, List, length, ℤ, pos, slice_index_or}
+use Rattle.std.specs.Prelude.{◌≡◌, ℕ, List, length, ℤ}
 use Rattle.quoting.specs.declared.quotation.Quotation.{Quotation}
+use Rattle.share.specs.Amounts.{energies, moneys}
 use Rattle.share.specs.Keys.{totals, weights}
 use Rattle.share.specs.Shares.{Fair, shares}
 use Rattle.share.specs.declared.load.Load.{Load}
@@ -18,10 +19,10 @@ pub record Quoted (price : Query → ℤ) (weighs : Load → Load → ℕ) (sche
   -- the actual less the schedule
   pub deviation : r.deviation ≡ deviation_of (asked schedule ls)
   pub charge : r.charge ≡ price (asked schedule ls)
-  pub count : r.count ≡ length ls
-  -- each generator's money is its share of the charge, and its energy that of the deviation; past the last generator both are zero
-  pub money : (k : ℕ) → slice_index_or r.money k (pos 0) ≡ slice_index_or (shares (price (asked schedule ls)) (weights weighs ls)) k (pos 0)
-  pub energy : (k : ℕ) → slice_index_or r.energy k (pos 0) ≡ slice_index_or (shares (deviation_of (asked schedule ls)) (weights weighs ls)) k (pos 0)
+  -- each generator's money is its share of the charge, and its energy that of the deviation
+  pub count : length r.each.items ≡ length ls
+  pub money : moneys r.each.items ≡ shares (price (asked schedule ls)) (weights weighs ls)
+  pub energy : energies r.each.items ≡ shares (deviation_of (asked schedule ls)) (weights weighs ls)
   -- the shares add up to the amount, and each lies less than one unit from its exact proportion
   pub fair_money : Fair (price (asked schedule ls)) (weights weighs ls)
   pub fair_energy : Fair (deviation_of (asked schedule ls)) (weights weighs ls)

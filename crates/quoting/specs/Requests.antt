@@ -5,10 +5,10 @@ use Rattle.quoting.specs.declared.quotation.Quotation.{Quotation}
 use Rattle.quoting.specs.declared.request.Request.{Request}
 use Rattle.share.specs.Loads.{loads}
 use Rattle.share.specs.declared.load.Load.{Load}
-use Rattle.std.specs.Prelude.{List, take}
+use Rattle.std.specs.Prelude.{List}
 
 abbrev pub loads_of : Request → List Load
-loads_of q = loads (take q.count q.generators)
+loads_of q = loads q.generators.items
 
 abbrev pub Answered : Request → Quotation → Type 0
 Answered q r = Quoted (charge_by q.tariff) (weighs_by q.key) q.schedule (loads_of q) r

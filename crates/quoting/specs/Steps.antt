@@ -24,21 +24,14 @@ abbrev pub tests : Given → Entry → List Test
 tests s (Tariff name) = test ((is_some s.tariff || is_some s.key) || is_some s.schedule) LateTariff ∷ rate_tests name
 tests s (Key key) = test (is_some s.key || is_some s.schedule) LateKey ∷ []
 tests s (Schedule kw) = test (is_some s.schedule) SecondSchedule ∷ test (nat_lt 6400000 kw) (Above quantity.Schedule 6400000) ∷ []
-tests s (Generator installed capacity reading) =
-    test (not (is_some s.schedule)) EarlyGenerator ∷ test (length s.loads == 32) ManyGenerators ∷ load_tests installed capacity reading
+tests s (Generator load) = test (not (is_some s.schedule)) EarlyGenerator ∷ test (length s.loads == 32) ManyGenerators ∷ load_tests load
 
 -- What an accepted line adds.
 abbrev pub taken : Given → Entry → Given
 taken s (Tariff name) = record { tariff = Some name; key = s.key; schedule = s.schedule; loads = s.loads }
 taken s (Key key) = record { tariff = s.tariff; key = Some key; schedule = s.schedule; loads = s.loads }
 taken s (Schedule kw) = record { tariff = s.tariff; key = s.key; schedule = Some kw; loads = s.loads }
-taken s (Generator installed capacity reading) =
-    record {
-      tariff = s.tariff;
-      key = s.key;
-      schedule = s.schedule;
-      loads = s.loads ++ (record { actual = reading; capacity = capacity; installed = installed } ∷ []);
-    }
+taken s (Generator load) = record { tariff = s.tariff; key = s.key; schedule = s.schedule; loads = s.loads ++ (load ∷ []) }
 
 -- What may be missing at the end.
 abbrev pub ending : Given → List Test

@@ -1,10 +1,11 @@
 -- Which numbers of a line are refused: tests in order, each with the cause that it gives.
-use Rattle.std.specs.Prelude.{ℕ, Bool, cond, List, [], ◌∷◌, Some, None, Option, nat_lt}
+use Rattle.std.specs.Prelude.{Bool, cond, List, [], ◌∷◌, Some, None, Option, nat_lt}
 use Rattle.quoting.specs.declared.complaint.Cause.TheVariants.{Above, Under}
 use Rattle.quoting.specs.declared.complaint.Cause.{Cause}
 use Rattle.quoting.specs.declared.complaint.Quantity.TheVariants.{ExportRate, DomesticRate, Installed, Capacity, Reading}
 use Rattle.quoting.specs.declared.entry.TariffName.TheVariants.{Bands, Rates}
 use Rattle.quoting.specs.declared.entry.TariffName.{TariffName}
+use Rattle.share.specs.declared.load.Load.{Load}
 
 pub record Test : Type 0 where
   pub fails : Bool
@@ -24,10 +25,10 @@ rate_tests (Bands bands) = []
 rate_tests (Rates export domestic) = test (nat_lt 4000 export) (Above ExportRate 4000) ∷ test (nat_lt 4000 domestic) (Above DomesticRate 4000) ∷ []
 
 -- 1,000 to 200,000 kW are installed, the capacity is at most what is installed, and the reading at most 200,000 kW.
-abbrev pub load_tests : ℕ → ℕ → ℕ → List Test
-load_tests installed capacity reading =
-    test (nat_lt installed 1000) (Under Installed 1000)
-    ∷ test (nat_lt 200000 installed) (Above Installed 200000)
-    ∷ test (nat_lt installed capacity) (Above Capacity installed)
-    ∷ test (nat_lt 200000 reading) (Above Reading 200000)
+abbrev pub load_tests : Load → List Test
+load_tests load =
+    test (nat_lt load.installed 1000) (Under Installed 1000)
+    ∷ test (nat_lt 200000 load.installed) (Above Installed 200000)
+    ∷ test (nat_lt load.installed load.capacity) (Above Capacity load.installed)
+    ∷ test (nat_lt 200000 load.actual) (Above Reading 200000)
     ∷ []

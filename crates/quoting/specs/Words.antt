@@ -1,5 +1,5 @@
 -- What a line says by itself: its words, and what they mean.
-use Rattle.std.specs.Prelude.{◌≡◌, ℕ, ◌+◌, ◌-◌, ◌*◌, ◌<◌, min, cond, List, [], ◌∷◌, ◌++◌, map, length, take, Some, None, Ok, Err, codes, Option, Result, ◌==◌, slice_index_or}
+use Rattle.std.specs.Prelude.{◌≡◌, ℕ, ◌+◌, ◌-◌, ◌*◌, ◌<◌, min, cond, List, [], ◌∷◌, ◌++◌, map, length, Some, None, Ok, Err, codes, Option, Result, ◌==◌, slice_index_or}
 use Rattle.quoting.specs.declared.choice.KeyChoice.TheVariants as key
 use Rattle.quoting.specs.declared.choice.KeyChoice.{KeyChoice}
 use Rattle.quoting.specs.declared.complaint.Cause.TheVariants.{UnknownLine, UnknownTariff, UnknownKey, WordCount, NotNumber}
@@ -9,6 +9,7 @@ use Rattle.quoting.specs.declared.entry.Entry.{Entry}
 use Rattle.quoting.specs.declared.entry.TariffName.TheVariants.{Bands, Rates}
 use Rattle.quoting.specs.declared.entry.TariffName.{TariffName}
 use Rattle.quoting.specs.declared.words.Words.{Words}
+use Rattle.share.specs.declared.load.Load.{Load}
 use Rattle.std.specs.Option.{ok_or}
 use Rattle.std.specs.Char.{is_ascii_digit, is_whitespace, is_not_whitespace}
 use Rattle.std.specs.Str.{NoCharPasses, EmptyOrStartsWithPassing, bytes_eq}
@@ -19,7 +20,7 @@ abbrev pub Said : Type 0
 Said = Result (Option Entry) Cause
 
 abbrev pub words_of : Words → List (List ℕ)
-words_of w = map (λ x. x.now) (take w.count w.each)
+words_of w = map (λ x. x.now) w.each.items
 
 -- The text begins with these words, with white space before each, and `rest` follows them.
 abbrev pub Spaced : List ℕ → List (List ℕ) → List ℕ → Type 0
@@ -66,9 +67,10 @@ key_in ws =
 abbrev pub schedule_in : List (List ℕ) → Result ℕ Cause
 schedule_in ws = sized 2 ws (number_in ws 1)
 
-abbrev pub generator_in : List (List ℕ) → Result Entry Cause
+abbrev pub generator_in : List (List ℕ) → Result Load Cause
 generator_in ws =
-    sized 4 ws (and_then (number_in ws 1) (λ installed. and_then (number_in ws 2) (λ capacity. and_then (number_in ws 3) (λ reading. Ok (Generator installed capacity reading)))))
+    sized 4 ws (and_then (number_in ws 1) (λ installed. and_then (number_in ws 2) (λ capacity. and_then (number_in ws 3)
+    (λ reading. Ok (record { actual = reading; capacity = capacity; installed = installed })))))
 
 -- The first word says which line it is.
 abbrev pub entry_in : List (List ℕ) → Result Entry Cause
@@ -76,7 +78,7 @@ entry_in ws =
     cond (bytes_eq (slice_index_or ws 0 []) (codes "tariff")) (and_then (tariff_in ws) (λ t. Ok (Tariff t)))
     (cond (bytes_eq (slice_index_or ws 0 []) (codes "key")) (and_then (key_in ws) (λ k. Ok (Key k)))
     (cond (bytes_eq (slice_index_or ws 0 []) (codes "schedule")) (and_then (schedule_in ws) (λ kw. Ok (Schedule kw)))
-    (cond (bytes_eq (slice_index_or ws 0 []) (codes "generator")) (generator_in ws) (Err UnknownLine))))
+    (cond (bytes_eq (slice_index_or ws 0 []) (codes "generator")) (and_then (generator_in ws) (λ load. Ok (Generator load))) (Err UnknownLine))))
 
 abbrev pub said_by : List (List ℕ) → Said
 said_by ws = cond (length ws == 0) (Ok None) (and_then (entry_in ws) (λ e. Ok (Some e)))

@@ -5,6 +5,7 @@ ghost use Rattle.std.specs.Prelude.{◌≡◌};
 use crate::choice::KeyChoice;
 use crate::complaint::Cause;
 use crate::words::Words;
+use share::load::Load;
 use tariff::banded::Banded;
 
 /// A tariff by its name and numbers.
@@ -20,30 +21,27 @@ pub enum Entry {
     Tariff(TariffName),
     Key(KeyChoice),
     Schedule(u32),
-    Generator {
-        installed: u32,
-        capacity: u32,
-        reading: u32,
-    },
+    Generator(Load),
 }
 
 fn read_tariff(words: &Words) -> Result<TariffName, Cause>
     ensures { result ≡ tariff_in (words_of words.now) }
 {
-    let name = words.at(1);
-    if name == "single" {
-        words.expect(4)?;
-        let export = words.number_at(2)?;
-        let domestic = words.number_at(3)?;
-        return Ok(TariffName::Rates { export, domestic });
-    }
-    words.expect(2)?;
-    if name == "10-20-30" {
-        Ok(TariffName::Bands(Banded::From10))
-    } else if name == "15-25-35" {
-        Ok(TariffName::Bands(Banded::From15))
-    } else {
-        Err(Cause::UnknownTariff)
+    match words.at(1) {
+        "single" => {
+            words.expect(4)?;
+            let export = words.number_at(2)?;
+            let domestic = words.number_at(3)?;
+            Ok(TariffName::Rates { export, domestic })
+        }
+        name => {
+            words.expect(2)?;
+            match name {
+                "10-20-30" => Ok(TariffName::Bands(Banded::From10)),
+                "15-25-35" => Ok(TariffName::Bands(Banded::From15)),
+                _ => Err(Cause::UnknownTariff),
+            }
+        }
     }
 }
 
@@ -51,13 +49,10 @@ fn read_key(words: &Words) -> Result<KeyChoice, Cause>
     ensures { result ≡ key_in (words_of words.now) }
 {
     words.expect(2)?;
-    let name = words.at(1);
-    if name == "units" {
-        Ok(KeyChoice::Units)
-    } else if name == "capacity" {
-        Ok(KeyChoice::Capacity)
-    } else {
-        Err(Cause::UnknownKey)
+    match words.at(1) {
+        "units" => Ok(KeyChoice::Units),
+        "capacity" => Ok(KeyChoice::Capacity),
+        _ => Err(Cause::UnknownKey),
     }
 }
 
@@ -68,17 +63,17 @@ fn read_schedule(words: &Words) -> Result<u32, Cause>
     words.number_at(1)
 }
 
-fn read_generator(words: &Words) -> Result<Entry, Cause>
+fn read_generator(words: &Words) -> Result<Load, Cause>
     ensures { result ≡ generator_in (words_of words.now) }
 {
     words.expect(4)?;
     let installed = words.number_at(1)?;
     let capacity = words.number_at(2)?;
-    let reading = words.number_at(3)?;
-    Ok(Entry::Generator {
-        installed,
+    let actual = words.number_at(3)?;
+    Ok(Load {
+        actual,
         capacity,
-        reading,
+        installed,
     })
 }
 
@@ -86,17 +81,12 @@ fn read_generator(words: &Words) -> Result<Entry, Cause>
 fn read_entry(words: &Words) -> Result<Entry, Cause>
     ensures { result ≡ entry_in (words_of words.now) }
 {
-    let head = words.at(0);
-    if head == "tariff" {
-        Ok(Entry::Tariff(read_tariff(words)?))
-    } else if head == "key" {
-        Ok(Entry::Key(read_key(words)?))
-    } else if head == "schedule" {
-        Ok(Entry::Schedule(read_schedule(words)?))
-    } else if head == "generator" {
-        read_generator(words)
-    } else {
-        Err(Cause::UnknownLine)
+    match words.at(0) {
+        "tariff" => Ok(Entry::Tariff(read_tariff(words)?)),
+        "key" => Ok(Entry::Key(read_key(words)?)),
+        "schedule" => Ok(Entry::Schedule(read_schedule(words)?)),
+        "generator" => Ok(Entry::Generator(read_generator(words)?)),
+        _ => Err(Cause::UnknownLine),
     }
 }
 
@@ -106,7 +96,7 @@ impl Entry {
         ensures { Says line.now result }
     {
         let words = Words::of(line);
-        if words.len() == 0 {
+        if words.is_empty() {
             return Ok(None);
         }
         Ok(Some(read_entry(&words)?))

@@ -1,17 +1,19 @@
 //! What a block costs, and who bears it.
-ghost use Rattle.quoting.specs.Quotes.{Quoted, asked};
+ghost use Rattle.quoting.specs.Quotes.{Quoted};
 ghost use Rattle.share.specs.Loads.{loads};
-ghost use Rattle.std.specs.Prelude.{◌≡◌};
 
+use arrayvec::ArrayVec;
+use share::amounts::Amounts;
 use share::generators::Generators;
 use share::key::Key;
-use share::weights::split_by;
+use share::weights::Weights;
 use std::fmt;
 use tariff::query::Query;
 use tariff::tariff::Tariff;
+use units::limits::GENERATORS;
 
-/// What a block costs a station, and what each of its generators bears: money and energy of the first `count` places.
-#[derive(Clone, Copy)]
+/// What a block costs a station, and what each of its generators bears.
+#[derive(Clone, Drop)]
 pub struct Quotation {
     /// The schedule, the actual and the capacity of the station.
     pub query: Query,
@@ -19,11 +21,8 @@ pub struct Quotation {
     pub deviation: i64,
     /// In paise: positive where it is payable, negative where it is receivable.
     pub charge: i64,
-    pub count: usize,
-    /// Each generator's share of the charge, in paise.
-    pub money: [i64; 32],
-    /// Each generator's share of the deviation, in kW over the block.
-    pub energy: [i64; 32],
+    /// The share of each generator: of the charge, and of the deviation.
+    pub each: ArrayVec<Amounts, GENERATORS>,
 }
 
 /// The quote for a schedule under any tariff and any key.
@@ -43,28 +42,17 @@ pub fn quote_for<T: Tariff, K: Key>(
         actual: station.actual,
         capacity: station.capacity,
     };
-    quote_query(tariff, key, query, generators)
-}
-
-/// The quote for what the tariff is asked of: its actual and its capacity are the sums over the generators.
-fn quote_query<T: Tariff, K: Key>(
-    tariff: &T,
-    key: &K,
-    query: Query,
-    generators: &Generators,
-) -> Quotation
-    requires { query ≡ asked query.schedule (loads generators.now.each.now) }
-    ensures { Quoted (T.Tariff.charge_of tariff.now) K.Key.weighs query.schedule (loads generators.now.each.now) result }
-{
     let deviation = query.deviation();
     let charge = tariff.charge(query);
+    let owed = Amounts {
+        money: charge,
+        energy: deviation,
+    };
     Quotation {
         query,
         deviation,
         charge,
-        count: generators.each().len(),
-        money: split_by(key, generators, charge),
-        energy: split_by(key, generators, deviation),
+        each: Weights::of(key, generators).split_amounts(owed),
     }
 }
 
@@ -84,9 +72,7 @@ impl fmt::Display for Quotation {
             "station   {schedule:>11} {actual:>10} {capacity:>11} {deviation:>12} {charge:>14}"
         )?;
         f.write_str("\n          number    money/paise   energy/kW\n")?;
-        for number in 0..self.count.min(32) {
-            let money = self.money[number];
-            let energy = self.energy[number];
+        for (number, &Amounts { money, energy }) in self.each.iter().enumerate() {
             writeln!(f, "generator {number:>6} {money:>14} {energy:>11}")?;
         }
         Ok(())

@@ -1,43 +1,44 @@
 //! From the text of a request to the text of its quote.
 ghost use Rattle.quoting.specs.Reports.{Failed, Reported};
+ghost use Rattle.quoting.specs.declared.report.Failure.TheVariants as failures;
+ghost use Rattle.std.specs.Prelude.{◌≡◌};
 ghost use Rattle.std.specs.Result.{MatchResult};
 
 use crate::answer::answer;
 use crate::complaint::Complaint;
-use std::alloc::Global;
-use std::error::Error;
-use std::fmt;
+use std::alloc::{AllocError, Global};
+use thiserror::Error;
 
 /// Why there is no report.
-#[derive(Clone, Copy, Debug)]
+#[derive(Clone, Copy, Debug, Error)]
 pub enum Failure {
     /// A line of the request is refused.
+    #[error("{0}")]
     Refused(Complaint),
-    /// There is no memory for the report.
+    #[error("there is no memory for the report")]
     NoMemory,
 }
 
-impl fmt::Display for Failure {
-    fn fmt<W: fmt::Write>(&self, f: &mut fmt::Formatter<W>) -> fmt::Result {
-        match self {
-            Failure::Refused(complaint) => write!(f, "{complaint}"),
-            Failure::NoMemory => f.write_str("there is no memory for the report"),
-        }
+impl From<Complaint> for Failure {
+    ghost from_gives = { λ complaint failure. failure ≡ failures.Refused complaint };
+
+    fn from(refused: Complaint) -> Failure {
+        Failure::Refused(refused)
     }
 }
 
-impl Error for Failure {}
+impl From<AllocError> for Failure {
+    ghost from_gives = { λ _ failure. failure ≡ failures.NoMemory };
+
+    fn from(_: AllocError) -> Failure {
+        Failure::NoMemory
+    }
+}
 
 /// The quote that the text of a request asks for, in lines.
 pub fn report(heap: Global, text: &str) -> Result<String, Failure>
     ensures { MatchResult result (λ _. Reported text.now) (Failed text.now) }
 {
-    let quotation = match answer(text) {
-        Ok(quotation) => quotation,
-        Err(complaint) => return Err(Failure::Refused(complaint)),
-    };
-    match format!(in heap; "{quotation}") {
-        Ok(lines) => Ok(lines),
-        Err(_) => Err(Failure::NoMemory),
-    }
+    let quotation = answer(text)?;
+    Ok(format!(in heap; "{quotation}")?)
 }

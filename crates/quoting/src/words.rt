@@ -1,13 +1,13 @@
 //! The words of a line.
 mod splits;
 
-ghost use Rattle.std.specs.Prelude.{◌≡◌, ◌≤◌, length};
+use arrayvec::ArrayVec;
 
-/// The words of a line; of more than five, the first five. No line takes as many.
-#[derive(Clone, Copy)]
+/// The most words that are read. No line takes as many.
+const MOST: usize = 5;
+
+/// The words of a line; of more than five, the first five.
+#[derive(Drop)]
 pub struct Words<'a> {
-    each: [&'a str; 5],
-    count: usize,
-    ghost few: { count ≤ 5 },
-    ghost room: { length each ≡ 5 },
+    each: ArrayVec<&'a str, MOST>,
 }

@@ -5,20 +5,22 @@ use std::test::Fail;
 
 const GENERATOR: &str = "generator 1000 0 0\n";
 
-/// The text is refused with this line.
-fn refused(rt: &impl Abort, heap: Global, text: &str, line: &str) -> Result<(), Fail> {
-    match report(heap, text) {
-        Ok(_) => Err(Fail::new("the request was granted")),
-        Err(failure) => {
-            assert!(rt; failure.to_string(heap)?.as_str() == line, "{}", line);
-            Ok(())
-        },
+/// Each text is refused with its line.
+fn refused(rt: &impl Abort, heap: Global, cases: &[(&str, &str)]) -> Result<(), Fail> {
+    for &(text, line) in cases {
+        let Err(failure) = report(heap, text) else {
+            return Err(Fail::new("the request was granted"));
+        };
+        assert!(rt; failure.to_string(heap)?.as_str() == line, "{}", line);
     }
+    Ok(())
 }
 
-/// The report of the text has this line.
-fn answered(rt: &impl Abort, heap: Global, text: &str, line: &str) -> Result<(), Fail> {
-    assert!(rt; report(heap, text)?.as_str().contains(line), "{}", line);
+/// The report of each text has its line.
+fn answered(rt: &impl Abort, heap: Global, cases: &[(&str, &str)]) -> Result<(), Fail> {
+    for &(text, line) in cases {
+        assert!(rt; report(heap, text)?.as_str().contains(line), "{}", line);
+    }
     Ok(())
 }
 
@@ -48,187 +50,137 @@ generator      1           -225           5
 
 #[test]
 fn defaults(rt: HostRuntime) -> Result<(), Fail> {
-    let heap = rt.alloc();
-    let station = "station          1000       1301        1000          301           3788\n";
-    answered(
-        &rt,
-        heap,
-        "schedule 1000\ngenerator 2000 1000 1301",
-        station,
-    )?;
-    answered(
-        &rt,
-        heap,
-        "tariff 15-25-35\nschedule 1000\ngenerator 2000 1000 1301",
-        " 2525\n",
-    )?;
     // The key of units gives all to the generator that delivers, the key of capacity to the one that is able.
-    let pair = "schedule 900\ngenerator 1000 1000 0\ngenerator 1000 0 1000\n";
-    answered(
-        &rt,
-        heap,
-        pair,
-        "generator      1              0         100\n",
-    )?;
-    answered(
-        &rt,
-        heap,
-        "\n  schedule   0 \r\n\ngenerator 1000 0 0\r\n",
-        "station             0",
-    )?;
-    answered(
-        &rt,
-        heap,
-        "key capacity\nschedule 900\ngenerator 1000 1000 0\ngenerator 1000 0 1000\n",
-        "generator      0              0         100\n",
-    )
+    let cases = [
+        (
+            "schedule 1000\ngenerator 2000 1000 1301",
+            "station          1000       1301        1000          301           3788\n",
+        ),
+        (
+            "tariff 15-25-35\nschedule 1000\ngenerator 2000 1000 1301",
+            " 2525\n",
+        ),
+        (
+            "schedule 900\ngenerator 1000 1000 0\ngenerator 1000 0 1000\n",
+            "generator      1              0         100\n",
+        ),
+        (
+            "\n  schedule   0 \r\n\ngenerator 1000 0 0\r\n",
+            "station             0",
+        ),
+        (
+            "key capacity\nschedule 900\ngenerator 1000 1000 0\ngenerator 1000 0 1000\n",
+            "generator      0              0         100\n",
+        ),
+    ];
+    answered(&rt, rt.alloc(), &cases)
 }
 
 #[test]
 fn largest_numbers(rt: HostRuntime) -> Result<(), Fail> {
     let heap = rt.alloc();
-    answered(
-        &rt,
-        heap,
-        "tariff single 4000 4000\nschedule 6400000\ngenerator 200000 200000 200000",
-        "station       6400000     200000      200000     -6200000     6200000000\n",
-    )?;
     let most = many(heap, 32)?;
-    answered(&rt, heap, most.as_str(), "generator     31")?;
+    let cases = [
+        (
+            "tariff single 4000 4000\nschedule 6400000\ngenerator 200000 200000 200000",
+            "station       6400000     200000      200000     -6200000     6200000000\n",
+        ),
+        (most.as_str(), "generator     31"),
+    ];
+    answered(&rt, heap, &cases)?;
     let beyond = many(heap, 33)?;
-    refused(
-        &rt,
-        heap,
-        beyond.as_str(),
-        "line 34: there are 32 generators already, and no more are allowed",
-    )
+    let line = "line 34: there are 32 generators already, and no more are allowed";
+    refused(&rt, heap, &[(beyond.as_str(), line)])
 }
 
 #[test]
 fn beyond_limits(rt: HostRuntime) -> Result<(), Fail> {
-    let heap = rt.alloc();
-    refused(
-        &rt,
-        heap,
-        "schedule 6400001",
-        "line 1: the schedule is above 6400000",
-    )?;
-    refused(
-        &rt,
-        heap,
-        "schedule 99999999999999999999",
-        "line 1: the schedule is above 6400000",
-    )?;
-    refused(
-        &rt,
-        heap,
-        "schedule 1\ngenerator 999 0 0",
-        "line 2: the installed power is below 1000",
-    )?;
-    refused(
-        &rt,
-        heap,
-        "schedule 1\ngenerator 200001 0 0",
-        "line 2: the installed power is above 200000",
-    )?;
-    refused(
-        &rt,
-        heap,
-        "schedule 1\ngenerator 1000 1001 0",
-        "line 2: the capacity is above 1000",
-    )?;
-    refused(
-        &rt,
-        heap,
-        "schedule 1\ngenerator 1000 0 200001",
-        "line 2: the reading is above 200000",
-    )?;
-    refused(
-        &rt,
-        heap,
-        "tariff single 4001 0",
-        "line 1: the export rate is above 4000",
-    )?;
-    refused(
-        &rt,
-        heap,
-        "tariff single 0 4001",
-        "line 1: the domestic rate is above 4000",
-    )
+    let cases = [
+        ("schedule 6400001", "line 1: the schedule is above 6400000"),
+        (
+            "schedule 99999999999999999999",
+            "line 1: the schedule is above 6400000",
+        ),
+        (
+            "schedule 1\ngenerator 999 0 0",
+            "line 2: the installed power is below 1000",
+        ),
+        (
+            "schedule 1\ngenerator 200001 0 0",
+            "line 2: the installed power is above 200000",
+        ),
+        (
+            "schedule 1\ngenerator 1000 1001 0",
+            "line 2: the capacity is above 1000",
+        ),
+        (
+            "schedule 1\ngenerator 1000 0 200001",
+            "line 2: the reading is above 200000",
+        ),
+        (
+            "tariff single 4001 0",
+            "line 1: the export rate is above 4000",
+        ),
+        (
+            "tariff single 0 4001",
+            "line 1: the domestic rate is above 4000",
+        ),
+    ];
+    refused(&rt, rt.alloc(), &cases)
 }
 
 #[test]
 fn bad_words(rt: HostRuntime) -> Result<(), Fail> {
-    let heap = rt.alloc();
-    let unknown = "line 1: the first word is none of tariff, key, schedule and generator";
-    refused(&rt, heap, "Schedule 1", unknown)?;
-    let tariff = "line 1: the tariff is none of 10-20-30, 15-25-35 and single";
-    refused(&rt, heap, "tariff 10-20-40", tariff)?;
-    refused(
-        &rt,
-        heap,
-        "key unit",
-        "line 1: the key is neither units nor capacity",
-    )?;
-    refused(
-        &rt,
-        heap,
-        "schedule",
-        "line 1: the line does not have 2 words",
-    )?;
-    refused(
-        &rt,
-        heap,
-        "schedule 1 2",
-        "line 1: the line does not have 2 words",
-    )?;
-    refused(
-        &rt,
-        heap,
-        "tariff single 1",
-        "line 1: the line does not have 4 words",
-    )?;
-    refused(
-        &rt,
-        heap,
-        "schedule 1\ngenerator 1 2 3 4",
-        "line 2: the line does not have 4 words",
-    )?;
     let number = "line 1: word 2 is not a whole number in digits alone";
-    refused(&rt, heap, "schedule -1", number)?;
-    refused(&rt, heap, "schedule +1", number)?;
-    refused(&rt, heap, "schedule 1kW", number)
+    let cases = [
+        (
+            "Schedule 1",
+            "line 1: the first word is none of tariff, key, schedule and generator",
+        ),
+        (
+            "tariff 10-20-40",
+            "line 1: the tariff is none of 10-20-30, 15-25-35 and single",
+        ),
+        ("key unit", "line 1: the key is neither units nor capacity"),
+        ("schedule", "line 1: the line does not have 2 words"),
+        ("schedule 1 2", "line 1: the line does not have 2 words"),
+        ("tariff single 1", "line 1: the line does not have 4 words"),
+        (
+            "schedule 1\ngenerator 1 2 3 4",
+            "line 2: the line does not have 4 words",
+        ),
+        ("schedule -1", number),
+        ("schedule +1", number),
+        ("schedule 1kW", number),
+    ];
+    refused(&rt, rt.alloc(), &cases)
 }
 
 #[test]
 fn bad_order(rt: HostRuntime) -> Result<(), Fail> {
-    let heap = rt.alloc();
-    refused(&rt, heap, "", "line 1: the schedule is missing")?;
-    refused(
-        &rt,
-        heap,
-        "tariff 10-20-30\nkey units\n",
-        "line 3: the schedule is missing",
-    )?;
-    refused(&rt, heap, "schedule 1\n", "line 2: there is no generator")?;
-    let late = "line 2: the tariff stands before all other lines, once";
-    refused(&rt, heap, "key units\ntariff 10-20-30\n", late)?;
-    refused(
-        &rt,
-        heap,
-        "schedule 1\nkey units\n",
-        "line 2: the key stands before the schedule, once",
-    )?;
-    refused(
-        &rt,
-        heap,
-        "schedule 1\nschedule 1\n",
-        "line 2: there is a schedule already",
-    )?;
-    refused(
-        &rt,
-        heap,
-        GENERATOR,
-        "line 1: the schedule stands before the generators",
-    )
+    let cases = [
+        ("", "line 1: the schedule is missing"),
+        (
+            "tariff 10-20-30\nkey units\n",
+            "line 3: the schedule is missing",
+        ),
+        ("schedule 1\n", "line 2: there is no generator"),
+        (
+            "key units\ntariff 10-20-30\n",
+            "line 2: the tariff stands before all other lines, once",
+        ),
+        (
+            "schedule 1\nkey units\n",
+            "line 2: the key stands before the schedule, once",
+        ),
+        (
+            "schedule 1\nschedule 1\n",
+            "line 2: there is a schedule already",
+        ),
+        (
+            GENERATOR,
+            "line 1: the schedule stands before the generators",
+        ),
+    ];
+    refused(&rt, rt.alloc(), &cases)
 }

@@ -1,5 +1,5 @@
 use posting::account::Account;
-use posting::day::post_day;
+use posting::day::Day;
 use posting::members::Members;
 use posting::missing::first_missing;
 use posting::pages::Pages;
@@ -30,14 +30,14 @@ fn day_of_two(rt: HostRuntime) -> Result<(), Fail> {
     };
     let mut accounts = [EMPTY; 3];
     accounts[1].installed = 3000;
-    let charges = post_day(
-        &Banded::From10,
-        &UnitsKey,
-        0,
+    let day = Day {
+        tariff: &Banded::From10,
+        key: &UnitsKey,
+        station: 0,
         members,
-        &pages,
-        &mut accounts,
-    );
+        pages,
+    };
+    let charges = day.post(&mut accounts);
     assert_eq!(rt; charges, 1250);
     assert_eq!(rt; accounts[1].energy, 500);
     assert_eq!(rt; accounts[2].money, 7);

@@ -1,14 +1,20 @@
 -- A book that was opened in full, and the calls up to the close of its day.
-use Rattle.std.proofs.Common.{◌≡◌, ℕ, zero, suc, ◌+◌, ◌*◌, ◌<◌, List, map, length, get_or, replicate, Ok, sym, refl, ap, ◌∙◌, subst, arith}
+use Rattle.std.proofs.Common.{◌≡◌, ℕ, zero, suc, ◌+◌, ◌*◌, ◌<◌, List, [], ◌∷◌, map, length, get_or, replicate, Ok, sym, refl, ap, ◌∙◌, subst, arith}
 use Rattle.book.specs.Calls.{Answer, Does, closing, filing, issuing}
-use Rattle.book.specs.Opening.{View, station_opened, opened_stations, view_of}
+use Rattle.book.specs.Opening.{View, opened_account, station_opened, opened_stations, view_of}
 use Rattle.book.specs.States.{State, nobody, station_at}
 use Rattle.book.specs.Stations.{filed_on, moved}
 use Rattle.book.specs.declared.station.Action.TheVariants.{File, Issue, Close}
 use Rattle.book.specs.declared.station.Station.{Station}
+use Rattle.posting.specs.Sheets.{installed_of}
 use Rattle.settle_bench.proofs.Settling.{still_sixteen, taken}
 use Rattle.settle_bench.specs.Full.{Sixteen}
 use Rattle.std.proofs.lemmas.List.{get_or-map, length-map}
+
+-- accounts as a day begins have the powers that they were opened with
+pub powers_opened : (powers : List ℕ) → installed_of (map opened_account powers) ≡ powers
+powers_opened [] = refl
+powers_opened (kw ∷ powers) = ap (λ rest. kw ∷ rest) (powers_opened powers)
 
 length_opened : (n from : ℕ) → length (opened_stations from (replicate n 0) (replicate n 32)) ≡ n
 length_opened zero from = refl

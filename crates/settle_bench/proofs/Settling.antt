@@ -13,7 +13,7 @@ use Rattle.posting.specs.declared.members.Members.{Members}
 use Rattle.settle_bench.specs.Full.{Done, DoneTo, Full, Placed, Sixteen, energy_of, from10, money_of}
 use Rattle.settle_bench.proofs.Writes.{same_shares}
 use Rattle.settle_bench.specs.Reports.{AllSettled, Reports}
-use Rattle.settle_bench.specs.declared.Shares.{Shares}
+use Rattle.settle_bench.specs.declared.shares.Shares.{Shares}
 use Rattle.share.specs.Keys.{by_units}
 use Rattle.std.proofs.lemmas.List.{get_or-set_other, get_or-set_same, length-set}
 use Rattle.std.proofs.lemmas.Bool.{cases_eq, cases_lt, cond-false}

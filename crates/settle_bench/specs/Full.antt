@@ -1,5 +1,5 @@
 -- A full book: 16 stations of 32 generators.
-use Rattle.std.specs.Prelude.{◌≡◌, ℕ, ◌+◌, ◌*◌, ◌<◌, Bool, T, List, length, ℤ, pos, slice_index_or}
+use Rattle.std.specs.Prelude.{◌≡◌, ℕ, ◌+◌, ◌*◌, ◌<◌, Bool, IsTrue, List, length, ℤ, pos, slice_index_or}
 use Rattle.book.specs.States.{State, nobody, sheet_at, station_at}
 use Rattle.book.specs.declared.station.Station.{Station}
 use Rattle.posting.specs.Days.{energy_share, money_share, no_account, standing_charges, sum_to}
@@ -52,4 +52,4 @@ pub record DoneTo (n : ℕ) (s : Sheet) (z : State) : Type 0 where
 -- what one book leaves: the day's numbers as they were and, where it was settled, all that settling posts
 pub record Leaves (settle : Bool) (s : Sheet) (z : State) : Type 0 where
   pub full : Full s z
-  pub done : T settle → DoneTo 16 s z
+  pub done : IsTrue settle → DoneTo 16 s z

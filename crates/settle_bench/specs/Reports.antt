@@ -6,7 +6,7 @@ use Rattle.posting.specs.Days.{no_account, standing_charges}
 use Rattle.posting.specs.Sheets.{Sheet}
 use Rattle.posting.specs.declared.members.Members.{Members}
 use Rattle.settle_bench.specs.Full.{Placed, energy_of, from10, money_of}
-use Rattle.settle_bench.specs.declared.Shares.{Shares}
+use Rattle.settle_bench.specs.declared.shares.Shares.{Shares}
 
 abbrev pub nothing : Shares
 nothing = record { money = pos 0; energy = pos 0 }

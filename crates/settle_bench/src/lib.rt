@@ -1,34 +1,32 @@
 //! Settles full books, so that Rust can time it: `settle_full_books` is the one function that crosses, exported by `settle_bench_c`.
 #![tactic(auto)]
 
+mod failure;
+mod full;
+mod shares;
+
+ghost use Rattle.book.specs.Opening.{opened_account};
 ghost use Rattle.book.specs.Sheets.{sheet_in};
 ghost use Rattle.book.specs.States.{state};
-ghost use Rattle.posting.specs.Sheets.{installed_of};
 ghost use Rattle.settle_bench.specs.Days.{day_sheet, sheet_of};
 ghost use Rattle.settle_bench.specs.Full.{DoneTo, Full, Leaves, Sixteen};
 ghost use Rattle.settle_bench.specs.Reports.{AllSettled, Reports};
-ghost use Rattle.std.specs.Prelude.{◌≡◌, T, map, length, replicate, IfSome, IfOk, Some, OnOk, OnSome};
+ghost use Rattle.std.specs.Prelude.{◌≡◌, map, length, IfOk, IsTrue, Some, OnOk};
 ghost use Rattle.tariff.specs.declared.banded.Banded.TheVariants.{From10};
 
 use book::{Book, Pages};
+pub use failure::Failure;
+use full::FullOpening;
 use posting::account::Account;
 use share::key::UnitsKey;
-use std::alloc::Global;
+pub use shares::Shares;
+use std::alloc::{AllocError, Global};
 use tariff::banded::Banded;
-use units::call::Opening;
 use units::fault::Fault;
-use units::limits::{BLOCKS, GENERATORS, STATIONS};
+use units::limits::{GENERATORS, STATIONS};
 
 /// The generators of a full book.
 const ALL_GENERATORS: usize = STATIONS * GENERATORS;
-
-/// What a generator gets of a day: of the charges, in paise, and of the deviations.
-#[repr(C)]
-#[derive(Clone, Copy)]
-pub struct Shares {
-    pub money: i64,
-    pub energy: i64,
-}
 
 /// A day's numbers, as the caller lends them: 96 schedules a station, 96 capacities and readings a generator.
 #[derive(Clone, Copy)]
@@ -39,53 +37,15 @@ struct Day<'a> {
     readings: &'a [u32],
 }
 
-/// The installed powers as an opening has them.
-fn widened(heap: Global, installed: &[u32]) -> Option<Vec<u64>> {
-    let mut powers = Vec::with_capacity(heap, installed.len()).ok()?;
-    for kw in installed {
-        powers.push(u64::from(*kw)).ok()?;
-    }
-    Some(powers)
-}
-
-/// Wind stations, as many as a book has, with as many generators each as a station has.
-fn full_opening(heap: Global, installed: &[u32]) -> Option<Opening>
-    ensures { IfSome result (λ o. (o.kinds.items ≡ replicate 16 0) × (o.counts.items ≡ replicate 16 32)) }
-{
-    Some(Opening {
-        kinds: vec![in heap; 0u64; STATIONS].ok()?,
-        counts: vec![in heap; GENERATORS as u64; STATIONS].ok()?,
-        installed: widened(heap, installed)?,
-    })
-}
-
-/// Pages for a full book.
-fn full_pages(heap: Global) -> Option<Pages> {
-    let unread: Option<u32> = None;
-    let account = Account {
-        installed: 0,
-        money: 0,
-        energy: 0,
-    };
-    Some(Pages {
-        schedules: vec![in heap; 0u32; BLOCKS * STATIONS].ok()?,
-        capacities: vec![in heap; 0u32; BLOCKS * ALL_GENERATORS].ok()?,
-        readings: vec![in heap; unread; BLOCKS * ALL_GENERATORS].ok()?,
-        accounts: vec![in heap; account; ALL_GENERATORS].ok()?,
-    })
-}
-
 /// A book whose stations have filed, issued and closed, and have still to be settled.
 fn closed_book(
     heap: Global,
-    opening: &Opening,
+    full: &FullOpening,
     pages: &mut Pages,
 ) -> Result<Book<Banded, UnitsKey>, Fault>
-    requires kinds { opening.now.kinds.items ≡ replicate 16 0 }
-    requires counts { opening.now.counts.items ≡ replicate 16 32 }
     ensures { IfOk result (λ b. (b.tariff ≡ From10) × Sixteen b.stations.items) }
 {
-    let mut book = Book::open(heap, Banded::From10, UnitsKey, opening, pages)?;
+    let mut book = Book::open(heap, Banded::From10, UnitsKey, &full.opening, pages)?;
     for t in 0..STATIONS as u64 {
         book.file(pages, t, 0, 95, 0)?;
         book.issue(pages, t)?;
@@ -95,38 +55,26 @@ fn closed_book(
 }
 
 /// A page on which every reading is there.
-fn read_page(heap: Global, readings: &[u32]) -> Option<Vec<Option<u32>>>
-    ensures { IfSome result (λ v. v.items ≡ map Some readings.now) }
+fn read_page(heap: Global, readings: &[u32]) -> Result<Vec<Option<u32>>, AllocError>
+    ensures { IfOk result (λ v. v.items ≡ map Some readings.now) }
 {
-    let mut page = Vec::with_capacity(heap, readings.len()).ok()?;
-    for kw in readings {
-        page.push_reserved(Some(*kw));
-    }
-    Some(page)
+    readings.iter().map(|kw| Some(*kw)).collect(heap)
 }
 
 /// Accounts of generators with these installed powers, as a day begins.
-fn opened_accounts(heap: Global, installed: &[u32]) -> Option<Vec<Account>>
-    ensures { IfSome result (λ v. installed_of v.items ≡ installed.now) }
+fn opened_accounts(heap: Global, installed: &[u32]) -> Result<Vec<Account>, AllocError>
+    ensures { IfOk result (λ v. v.items ≡ map opened_account installed.now) }
 {
-    let mut page = Vec::with_capacity(heap, installed.len()).ok()?;
-    for kw in installed {
-        page.push_reserved(Account {
-            installed: *kw,
-            money: 0,
-            energy: 0,
-        });
-    }
-    Some(page)
+    installed.iter().map(|kw| Account::new(*kw)).collect(heap)
 }
 
 /// Pages that hold the day's numbers.
-fn day_pages(heap: Global, day: &Day) -> Option<Pages>
-    ensures { IfSome result (λ p. sheet_in p ≡ sheet_of day.now) }
+fn day_pages(heap: Global, day: &Day) -> Result<Pages, AllocError>
+    ensures { IfOk result (λ p. sheet_in p ≡ sheet_of day.now) }
 {
-    Some(Pages {
-        schedules: day.schedules.to_vec(heap).ok()?,
-        capacities: day.capacities.to_vec(heap).ok()?,
+    Ok(Pages {
+        schedules: day.schedules.to_vec(heap)?,
+        capacities: day.capacities.to_vec(heap)?,
         readings: read_page(heap, day.readings)?,
         accounts: opened_accounts(heap, day.installed)?,
     })
@@ -153,15 +101,11 @@ fn report(
 ) -> Result<(), Fault>
     ensures { OnOk result (Reports (state book.now pages.now) dues.new shares.new) }
 {
-    for t in 0..dues.len() {
-        dues[t] = book.due(t as u64)?;
+    for (t, due) in dues.iter_mut().enumerate() {
+        *due = book.due(t as u64)?;
     }
-    for g in 0..shares.len() {
-        let account = book.account(pages, g as u64)?;
-        shares[g] = Shares {
-            money: account.money,
-            energy: account.energy,
-        };
+    for (g, share) in shares.iter_mut().enumerate() {
+        *share = Shares::from(book.account(pages, g as u64)?);
     }
     Ok(())
 }
@@ -170,17 +114,15 @@ fn report(
 /// The calls before the readings write to pages of their own, so that the day's numbers are laid out once.
 fn one_book(
     heap: Global,
-    opening: &Opening,
+    full: &FullOpening,
     blank: &mut Pages,
     pages: &mut Pages,
     settle: bool,
 ) -> Result<Book<Banded, UnitsKey>, Fault>
-    requires kinds { opening.now.kinds.items ≡ replicate 16 0 }
-    requires counts { opening.now.counts.items ≡ replicate 16 32 }
-    requires accounts { length pages.old.accounts.items ≡ 512 }
+    requires { length pages.old.accounts.items ≡ 512 }
     ensures { IfOk result (λ b. Leaves settle (sheet_in pages.old) (state b pages.new)) }
 {
-    let mut book = closed_book(heap, opening, blank)?;
+    let mut book = closed_book(heap, full, blank)?;
     if settle {
         settle_all(&mut book, pages)?;
     }
@@ -190,25 +132,20 @@ fn one_book(
 /// The last of `books` full books, each settled where `settle` says so.
 fn last_book(
     heap: Global,
-    opening: &Opening,
+    full: &FullOpening,
     pages: &mut Pages,
     books: usize,
     settle: bool,
-) -> Option<Book<Banded, UnitsKey>>
-    requires kinds { opening.now.kinds.items ≡ replicate 16 0 }
-    requires counts { opening.now.counts.items ≡ replicate 16 32 }
-    requires accounts { length pages.old.accounts.items ≡ 512 }
-    ensures { IfSome result (λ b. Leaves settle (sheet_in pages.old) (state b pages.new)) }
+) -> Result<Book<Banded, UnitsKey>, Failure>
+    requires { length pages.old.accounts.items ≡ 512 }
+    ensures { IfOk result (λ b. Leaves settle (sheet_in pages.old) (state b pages.new)) }
 {
-    let mut blank = full_pages(heap)?;
+    let mut blank = Pages::new(heap, STATIONS as u8, ALL_GENERATORS as u16)?;
     let mut last = None;
     for _ in 0..books {
-        let Ok(book) = one_book(heap, opening, &mut blank, pages, settle) else {
-            return None;
-        };
-        last = Some(book);
+        last = Some(one_book(heap, full, &mut blank, pages, settle)?);
     }
-    last
+    last.ok_or(Failure::NoBook)
 }
 
 /// Opens `books` full books, settles each where `settle` says so, and reports the last.
@@ -219,23 +156,25 @@ fn run(
     settle: bool,
     dues: &mut [i64],
     shares: &mut [Shares],
-) -> Option<()>
-    ensures { OnSome result ((T settle → AllSettled (sheet_of day.now) dues.new shares.new)) }
+) -> Result<(), Failure>
+    ensures { OnOk result ((IsTrue settle → AllSettled (sheet_of day.now) dues.new shares.new)) }
 {
-    if day.installed.len() != ALL_GENERATORS {
-        return None;
+    let given = day.installed.len();
+    if given != ALL_GENERATORS {
+        return Err(Failure::Refused(Fault::InstalledCount {
+            given: given as u64,
+            needed: ALL_GENERATORS as u64,
+        }));
     }
-    let opening = full_opening(heap, day.installed)?;
+    let full = FullOpening::new(heap, day.installed)?;
     let mut pages = day_pages(heap, day)?;
-    let book = last_book(heap, &opening, &mut pages, books, settle)?;
-    match report(&book, &pages, dues, shares) {
-        Ok(_) => Some(()),
-        Err(_) => None,
-    }
+    let book = last_book(heap, &full, &mut pages, books, settle)?;
+    report(&book, &pages, dues, shares)?;
+    Ok(())
 }
 
 /// Opens `books` full books on the caller's numbers, settles each where `settle` says so, and reports the last.
-/// Whether that was done: not where a page is too short, a number is refused, or there is no memory or no book.
+/// It fails where a page is too short, a number is refused, or there is no memory or no book.
 pub fn settle_full_books<'a>(
     heap: Global,
     installed: &'a [u32],
@@ -246,8 +185,8 @@ pub fn settle_full_books<'a>(
     settle: bool,
     dues: &mut [i64],
     shares: &mut [Shares],
-) -> bool
-    ensures { T result → T settle → AllSettled (day_sheet installed.now schedules.now capacities.now readings.now) dues.new shares.new }
+) -> Result<(), Failure>
+    ensures { OnOk result (IsTrue settle → AllSettled (day_sheet installed.now schedules.now capacities.now readings.now) dues.new shares.new) }
 {
     let day = Day {
         installed,
@@ -255,5 +194,5 @@ pub fn settle_full_books<'a>(
         capacities,
         readings,
     };
-    run(heap, &day, books, settle, dues, shares).is_some()
+    run(heap, &day, books, settle, dues, shares)
 }

@@ -3,7 +3,7 @@
 
 ghost use Rattle.settle_bench.specs.Days.{day_sheet};
 ghost use Rattle.settle_bench.specs.Reports.{AllSettled};
-ghost use Rattle.std.specs.Prelude.{T};
+ghost use Rattle.std.specs.Prelude.{IsTrue};
 
 use settle_bench::Shares;
 use std::alloc::Global;
@@ -22,9 +22,10 @@ pub extern "C" fn settle_full_books<'a>(
     dues: &mut [i64],
     shares: &mut [Shares],
 ) -> bool
-    ensures { T result → T settle → AllSettled (day_sheet installed.now schedules.now capacities.now readings.now) dues.new shares.new }
+    ensures { IsTrue result → IsTrue settle → AllSettled (day_sheet installed.now schedules.now capacities.now readings.now) dues.new shares.new }
 {
     settle_bench::settle_full_books(
         heap, installed, schedules, capacities, readings, books, settle, dues, shares,
     )
+    .is_ok()
 }

@@ -1,6 +1,6 @@
 -- The weights that a value of `Weights` holds.
-use Rattle.std.specs.Prelude.{ℕ, List, take}
+use Rattle.std.specs.Prelude.{ℕ, List}
 use Rattle.share.specs.declared.weights.Weights.{Weights}
 
 abbrev pub held : Weights → List ℕ
-held w = take w.count w.each
+held w = w.each.items

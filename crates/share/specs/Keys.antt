@@ -1,6 +1,7 @@
 -- The weights of a station's generators, and the two keys.
-use Rattle.std.specs.Prelude.{ℕ, max, cond, List, map, sum_by, nat_lt}
+use Rattle.std.specs.Prelude.{ℕ, ◌<◌, max, cond, List, length, map, sum_by, sum, nat_lt}
 use Rattle.share.specs.declared.load.Load.{Load}
+use Rattle.std.specs.List.{AllByRecursion}
 
 abbrev pub largest : Load → ℕ
 largest l = max l.actual (max l.capacity l.installed)
@@ -12,6 +13,10 @@ totals ls = record { actual = sum_by (λ l. l.actual) ls; capacity = sum_by (λ 
 -- the weights by a key w, which takes a generator's own numbers and the totals
 abbrev pub weights : (Load → Load → ℕ) → List Load → List ℕ
 weights w ls = map (λ l. w l (totals ls)) ls
+
+-- over one generator or more, each with some power installed, the weights by w do not all vanish
+abbrev pub NeverVanish : (Load → Load → ℕ) → Type 0
+NeverVanish w = (ls : List Load) → 0 < length ls → AllByRecursion (λ l. 0 < l.installed) ls → 0 < sum (weights w ls)
 
 abbrev pub by_capacity : Load → Load → ℕ
 by_capacity own station = cond (nat_lt 0 station.capacity) own.capacity own.installed

@@ -1,3 +1,4 @@
+pub mod Amounts
 pub mod Held
 pub mod Keys
 pub mod Loads

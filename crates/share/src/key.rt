@@ -1,8 +1,7 @@
 //! How a station's amounts are split: a key gives each generator a weight.
-ghost use Rattle.std.specs.Prelude.{◌≡◌, ℕ, ◌<◌, ◌≤◌, List, length, sum};
-ghost use Rattle.share.specs.Keys.{by_capacity, by_units, largest, weights};
+ghost use Rattle.std.specs.Prelude.{◌≡◌, ℕ, ◌≤◌};
+ghost use Rattle.share.specs.Keys.{NeverVanish, by_capacity, by_units, largest};
 ghost use Rattle.share.specs.declared.load.Load.{Load};
-ghost use Rattle.std.specs.List.{AllByRecursion};
 ghost use Rattle.share.specs.Alive.{units_alive, capacity_alive};
 ghost use Rattle.std.proofs.Common.{rules};
 
@@ -19,7 +18,7 @@ pub trait Key {
     ghost bounded: { (own station : Load) → weighs own station ≤ largest own };
 
     // Over one generator or more, each with some power installed, the weights do not all vanish.
-    ghost alive: { (ls : List Load) → 0 < length ls → AllByRecursion (λ l. 0 < l.installed) ls → 0 < sum (weights weighs ls) };
+    ghost alive: { NeverVanish weighs };
 }
 
 /// By the actual; as the capacity key where the station's actual is zero.

@@ -1,6 +1,7 @@
 //! A station's amounts, split among its generators by a key.
 #![tactic(auto)]
 
+pub mod amounts;
 pub mod generator;
 pub mod generators;
 pub mod key;

@@ -27,9 +27,7 @@ pub(crate) fn signed(amount: i64, magnitude: u64) -> i64
 {
     if amount >= 0 {
         magnitude as i64
-    } else if magnitude == 0 {
-        0
     } else {
-        -1 - (magnitude - 1) as i64
+        (-i128::from(magnitude)) as i64
     }
 }

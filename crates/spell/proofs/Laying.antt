@@ -2,7 +2,8 @@
 use Rattle.std.proofs.Common.{◌≡◌, ℕ, suc, ◌+◌, ◌<◌, ◌≤◌, List, [], ◌∷◌, ◌++◌, length, get_or, take, drop, set, Ok, sym, refl, ap, ◌∙◌, subst, arith, length-append, length-set}
 use Rattle.std.specs.List.{flat_map}
 use Rattle.std.proofs.lemmas.List.{flat_map_more, take_more, take_more_set, drop-set-lt, take-append-drop, append_assoc}
-use Rattle.spell.specs.Pages.{laid, Lays, onto, wrote}
+use Rattle.spell.specs.Pages.{laid, Lays, Writes, onto, wrote}
+use Rattle.spell.specs.declared.writer.Writer.{Writer}
 
 laid_append : (at : ℕ) (s t page : List ℕ) → laid at (s ++ t) page ≡ laid (at + length s) t (laid at s page)
 laid_append at [] t page = ap (λ k. laid k t page) (omega arith)
@@ -18,12 +19,6 @@ lays_then {s = s} {t = t} {at = at} {m = m} {n = n} {p = p} {q = q} {r = r} h k 
   place = k.place ∙ ap (λ a. a + length t) h.place ∙ simp length-append (omega arith);
   page = k.page ∙ ap (λ a. laid a t q) h.place ∙ ap (laid (at + length s) t) h.page ∙ sym (laid_append at s t p);
 }
-
--- one item more of a loop
-pub lays_more : {X : Type 0} (f : X → List ℕ) (xs : List X) (i : ℕ) (d : X) {at m n : ℕ} {p q r : List ℕ} → i < length xs → Lays (flat_map f (take i xs)) at p q m → Lays (f (get_or xs i d)) m q r n → Lays (flat_map f (take (i + 1) xs)) at p r n
-lays_more f xs i d {at = at} {n = n} {p = p} {r = r} lt h k =
-    let more : flat_map f (take i xs) ++ f (get_or xs i d) ≡ flat_map f (take (i + 1) xs) = flat_map_more f [] (take i xs) (get_or xs i d) ∙ ap (flat_map f) (sym (take_more xs i d lt)) in
-    subst (λ l. Lays l at p r n) more (lays_then h k)
 
 pub lays_as : {s t : List ℕ} {at n : ℕ} {p q : List ℕ} → s ≡ t → Lays s at p q n → Lays t at p q n
 lays_as {at = at} {n = n} {p = p} {q = q} e h = subst (λ l. Lays l at p q n) e h
@@ -49,3 +44,24 @@ lays_onto {text = text} {page = page} {after = after} {n = n} h fits =
     let none : 0 + length text ≡ length text = omega arith in
     let q : after ≡ onto text page = h.page ∙ laid_is 0 text page (omega arith) ∙ ap (λ k. text ++ drop k page) none in
     cc
+
+-- the same of pens
+
+pub writes_none : (p : Writer) → Writes [] 0 p p
+writes_none p = record { lays = lays_none _ _; short = omega arith; same = refl }
+
+pub writes_then : {s t : List ℕ} {a b : ℕ} {p q r : Writer} → Writes s a p q → Writes t b q r → Writes (s ++ t) (a + b) p r
+writes_then h k = record { lays = lays_then h.lays k.lays; short = simp length-append (omega (arith, h.short, k.short)); same = k.same ∙ h.same }
+
+pub writes_as : {s t : List ℕ} {a b : ℕ} {p q : Writer} → s ≡ t → a ≤ b → Writes s a p q → Writes t b p q
+writes_as e le h = record { lays = lays_as e h.lays; short = omega (arith, ap length e, h.short); same = h.same }
+
+-- one item more of a loop
+pub writes_more : {X : Type 0} (f : X → List ℕ) (xs : List X) (i : ℕ) (d : X) {a b : ℕ} {p q r : Writer} → i < length xs → Writes (flat_map f (take i xs)) a p q → Writes (f (get_or xs i d)) b q r → Writes (flat_map f (take (i + 1) xs)) (a + b) p r
+writes_more f xs i d lt h k =
+    let more : flat_map f (take i xs) ++ f (get_or xs i d) ≡ flat_map f (take (i + 1) xs) = flat_map_more f [] (take i xs) (get_or xs i d) ∙ ap (flat_map f) (sym (take_more xs i d lt)) in
+    writes_as more (omega arith) (writes_then h k)
+
+-- a writer that began at the front of a page
+pub on_page : {text : List ℕ} {most : ℕ} {p q : Writer} {before after : List ℕ} {n : ℕ} → Writes text most p q → p.at ≡ 0 → p.page.now ≡ before → after ≡ q.page.now → n ≡ q.at → Lays text 0 before after n
+on_page {text = text} h front page after place = record { place = place ∙ h.lays.place ∙ ap (λ k. k + length text) front; page = after ∙ h.lays.page ∙ (λ i. laid (front i) text (page i)) }

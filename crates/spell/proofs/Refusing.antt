@@ -81,7 +81,3 @@ passed held line page after n e =
     let answers : Ok n ≡ Ok (length line) = ap (λ x. x.answer) w in
     let size : n ≡ length line = cc in
     record { held = ltb-false _ _ q.0; short = ltb-false _ _ r.0; size = size; page = ap (λ x. x.page) w }
-
--- for callers that have looked at the page themselves
-pub long_enough_lem : (least : ℕ) (text page : List ℕ) → least ≤ length page → writing ((ltb (length page) least, ShortOutput (length page)) ∷ []) text page ≡ wrote (Ok (length text)) (onto text page)
-long_enough_lem least text page long = sym (passes _ _ [] text page (le-ltb _ _ long) (stands text page))

@@ -1,7 +1,8 @@
 -- Texts on a page.
-use Rattle.std.specs.Prelude.{◌≡◌, ℕ, suc, ◌+◌, Bool, cond, List, [], ◌∷◌, ◌++◌, length, drop, Ok, Err, Result, slice_set}
+use Rattle.std.specs.Prelude.{◌≡◌, ℕ, suc, ◌+◌, ◌^◌, ◌≤◌, Bool, cond, List, [], ◌∷◌, ◌++◌, length, drop, Ok, Err, Result, slice_set}
 use Rattle.std.specs.List.{flat_map}
 use Rattle.units.specs.declared.fault.Fault.{Fault}
+use Rattle.spell.specs.declared.writer.Writer.{Writer}
 
 -- the page with the text from this place on; what reaches beyond the page's end is lost
 abbrev pub laid : ℕ → List ℕ → List ℕ → List ℕ
@@ -12,6 +13,16 @@ laid at (b ∷ bs) page = laid (suc at) bs (slice_set page at b)
 pub record Lays (text : List ℕ) (at : ℕ) (before after : List ℕ) (next : ℕ) : Type 0 where
   pub place : next ≡ at + length text
   pub page : after ≡ laid at text before
+
+-- a writer wrote the text, of so many bytes at most, on the page where it stands, and stands behind it
+pub record Writes (text : List ℕ) (most : ℕ) (before after : Writer) : Type 0 where
+  pub lays : Lays text before.at before.page.now after.page.now after.at
+  pub short : length text ≤ most
+  pub same : after.page.ghost_name ≡ before.page.ghost_name
+
+-- so many bytes more, and the writer stands at no place from 2^32 on
+abbrev pub HasRoom : ℕ → Writer → Type 0
+HasRoom most writer = writer.at + most ≤ 2 ^ 32
 
 -- the text stands at the front, and behind it what the page held
 abbrev pub onto : List ℕ → List ℕ → List ℕ

@@ -2,10 +2,9 @@
 use Rattle.std.specs.Prelude.{ℕ, suc, Bool, List, [], ◌∷◌, map, length, nat_lt}
 use Rattle.units.specs.declared.fault.Fault.{Fault}
 use Rattle.units.specs.declared.fault.Fault.TheVariants.{ShortOutput, LongLine, BadArgument}
-use Rattle.grammar.specs.Calls.{Asked, one, many, name, form}
+use Rattle.grammar.specs.Calls.{Asked, form}
 use Rattle.grammar.specs.Grammar.{spelled}
 use Rattle.grammar.specs.Reads.{most_bytes}
-use Rattle.grammar.specs.declared.heads.Head.TheVariants.{Revise}
 use Rattle.spell.specs.Pages.{Wrote, writing}
 use Rattle.spell.specs.Words.{holds, held_first}
 
@@ -23,11 +22,3 @@ spelling_of held line page = writing (causes held line page) line page
 
 abbrev pub spelling : Asked → List ℕ → Wrote
 spelling a page = spelling_of (map holds a.values) (spelled (form a)) page
-
--- what a line asks for that sets the power of a subject in the blocks of a range
-abbrev pub spans : (head : List ℕ) (subject from to kw : ℕ) → Asked
-spans head subject from to kw = record { head = head; values = one subject ∷ one from ∷ one to ∷ one kw ∷ [] }
-
--- what a revision's line asks for
-abbrev pub revises : (station number notice : ℕ) (values : List ℕ) → Asked
-revises station number notice values = record { head = name Revise; values = one station ∷ one number ∷ one notice ∷ many values ∷ [] }

@@ -1,6 +1,6 @@
 -- The words of a line: numbers, signed amounts and lists, each after a space.
-use Rattle.std.specs.Prelude.{ℕ, suc, ◌+◌, ◌*◌, ◌^◌, Bool, true, false, cond, ◌&&◌, List, [], ◌∷◌, ◌++◌, map, length, decimal, nat_le, nat_lt}
-use Rattle.std.specs.List.{flat_map}
+use Rattle.std.specs.Prelude.{ℕ, suc, ◌+◌, ◌*◌, ◌^◌, Bool, false, cond, ◌&&◌, List, [], ◌∷◌, ◌++◌, map, length, decimal, nat_le, nat_lt}
+use Rattle.std.specs.List.{flat_map, list_all}
 use Rattle.std.specs.Fmt.{signed_decimal}
 use Rattle.grammar.specs.Calls.{Value, one, many}
 use Rattle.grammar.specs.Grammar.{spaced}
@@ -40,8 +40,7 @@ abbrev pub small : ℕ → Bool
 small n = nat_lt n (10 ^ 13)
 
 abbrev pub all_are_small : List ℕ → Bool
-all_are_small [] = true
-all_are_small (n ∷ ns) = small n && all_are_small ns
+all_are_small ns = list_all small ns
 
 -- a value that a form holds: a number of at most 13 digits, or 1 to 96 of these
 abbrev pub holds : Value → Bool

@@ -4,7 +4,7 @@ ghost use Rattle.spell.specs.Answers.{refusal_text, answering};
 ghost use Rattle.spell.specs.Pages.{Lays, wrote};
 
 use crate::words::Word;
-use crate::writers::{fed_line, put_all};
+use crate::writer::Writer;
 use units::fault::{Fault, Refusal};
 
 /// The least page that an answer is written to.
@@ -14,9 +14,8 @@ pub const ANSWER_PAGE: usize = 64;
 fn refusal_line(page: &mut [u8], refusal: &Refusal) -> usize
     ensures { Lays (refusal_text refusal.now) 0 page.old page.new result }
 {
-    fed_line(
-        page,
-        0,
+    let mut writer = Writer::new(page);
+    writer.fed_line(
         b"no",
         &[
             Word::Number(&refusal.layer),
@@ -24,7 +23,8 @@ fn refusal_line(page: &mut [u8], refusal: &Refusal) -> usize
             Word::Number(&refusal.place.0),
             Word::Number(&refusal.place.1),
         ],
-    )
+    );
+    writer.place()
 }
 
 /// Writes `(ok)`, or `(no layer number p q)` for a fault, and a line feed, to the front of the page, and answers the
@@ -38,7 +38,11 @@ pub fn write_answer(answer: &Result<(), Fault>, page: &mut [u8]) -> Result<usize
         });
     }
     match answer {
-        Ok(_) => Ok(put_all(page, 0, b"(ok)\n")),
+        Ok(_) => {
+            let mut writer = Writer::new(page);
+            writer.write(b"(ok)\n");
+            Ok(writer.place())
+        }
         Err(fault) => {
             let refusal = fault.refusal();
             Ok(refusal_line(page, &refusal))

@@ -1,14 +1,15 @@
 //! Spells calls as lines.
-ghost use Rattle.std.specs.Prelude.{◌≡◌, ◌≤◌, map, length};
-ghost use Rattle.grammar.specs.Calls.{asked, opens};
-ghost use Rattle.spell.specs.Pages.{wrote};
-ghost use Rattle.spell.specs.Spelling.{spelling, spelling_of, spans, revises};
-ghost use Rattle.spell.specs.Words.{held_word, line_text};
+ghost use Rattle.std.specs.Prelude.{◌≡◌, ◌≤◌, ◌^◌, map, length};
+ghost use Rattle.grammar.specs.Calls.{asked, name, opens};
+ghost use Rattle.spell.specs.Pages.{Lays, wrote};
+ghost use Rattle.spell.specs.Spelling.{spelling, spelling_of};
+ghost use Rattle.spell.specs.Words.{held_word, line_room, line_text};
 
 use crate::held::held_words;
 use crate::words::Word;
 use crate::words::Word::{List, Number};
-use crate::writers::line;
+use crate::writer::Writer;
+use grammar::heads::Head;
 use units::call::{Call, Opening};
 use units::fault::Fault;
 
@@ -18,11 +19,20 @@ pub const LINE_PAGE: usize = 1024;
 /// The longest line.
 pub const LONGEST_LINE: usize = 1024;
 
+/// Writes the line to the front of the page, and answers its length.
+fn line(page: &mut [u8], head: Head, words: &[Word]) -> usize
+    requires { line_room (name head) words.now ≤ 2 ^ 32 }
+    ensures { Lays (line_text (name head) words.now) 0 page.old page.new result }
+{
+    let mut writer = Writer::new(page);
+    writer.line(head.name(), words);
+    writer.place()
+}
+
 /// Writes the head and its words as a line.
-fn spell(head: &[u8], words: &[Word], page: &mut [u8]) -> Result<usize, Fault>
-    requires head { length head.now ≤ 8 }
-    requires few { length words.now ≤ 4 }
-    ensures { wrote result page.new ≡ spelling_of (map held_word words.now) (line_text head.now words.now) page.old }
+fn spell(head: Head, words: &[Word], page: &mut [u8]) -> Result<usize, Fault>
+    requires { length words.now ≤ 4 }
+    ensures { wrote result page.new ≡ spelling_of (map held_word words.now) (line_text (name head) words.now) page.old }
 {
     if page.len() < LINE_PAGE {
         return Err(Fault::ShortOutput {
@@ -35,54 +45,13 @@ fn spell(head: &[u8], words: &[Word], page: &mut [u8]) -> Result<usize, Fault>
             position: held as u64 + 1,
         });
     }
-    let length = line(&mut [], 0, head, words);
+    let length = line(&mut [], head, words);
     if length > LONGEST_LINE {
         return Err(Fault::LongLine {
             length: length as u64,
         });
     }
-    Ok(line(page, 0, head, words))
-}
-
-/// Writes a line that sets the power of a station or a generator in the blocks of a range.
-fn spell_span<'a>(
-    head: &[u8],
-    subject: &'a u64,
-    from: &'a u64,
-    to: &'a u64,
-    kw: &'a u64,
-    page: &mut [u8],
-) -> Result<usize, Fault>
-    requires { length head.now ≤ 8 }
-    ensures { wrote result page.new ≡ spelling (spans head.now subject.now from.now to.now kw.now) page.old }
-{
-    spell(
-        head,
-        &[Number(subject), Number(from), Number(to), Number(kw)],
-        page,
-    )
-}
-
-/// Writes the line of a revision.
-fn spell_revision<'a>(
-    station: &'a u64,
-    number: &'a u64,
-    notice: &'a u64,
-    values: &'a [u64],
-    page: &mut [u8],
-) -> Result<usize, Fault>
-    ensures { wrote result page.new ≡ spelling (revises station.now number.now notice.now values.now) page.old }
-{
-    spell(
-        b"revise",
-        &[
-            Number(station),
-            Number(number),
-            Number(notice),
-            List(values),
-        ],
-        page,
-    )
+    Ok(line(page, head, words))
 }
 
 /// Writes the call's line to the front of the page, and answers its length. What stands behind it is kept.
@@ -92,45 +61,50 @@ fn spell_revision<'a>(
 pub fn spell_call(call: &Call, page: &mut [u8]) -> Result<usize, Fault>
     ensures { wrote result page.new ≡ spelling (asked call.now) page.old }
 {
+    let head = Head::of(call);
     match call {
         Call::File {
-            station,
+            station: subject,
             from,
             to,
             kw,
-        } => spell_span(b"file", station, from, to, kw, page),
-        Call::Declare {
-            generator,
+        }
+        | Call::Declare {
+            generator: subject,
             from,
             to,
             kw,
-        } => spell_span(b"declare", generator, from, to, kw, page),
-        Call::Read {
-            generator,
+        }
+        | Call::Read {
+            generator: subject,
             from,
             to,
             kw,
-        } => spell_span(b"read", generator, from, to, kw, page),
-        Call::Issue { station } => spell(b"issue", &[Number(station)], page),
+        } => {
+            let words = [Number(subject), Number(from), Number(to), Number(kw)];
+            spell(head, &words, page)
+        }
+        Call::Issue { station } | Call::Close { station } | Call::Settle { station } => {
+            spell(head, &[Number(station)], page)
+        }
         Call::Revise {
             station,
             number,
             notice,
             values,
-        } => spell_revision(station, number, notice, values.as_slice(), page),
-        Call::Close { station } => spell(b"close", &[Number(station)], page),
-        Call::Settle { station } => spell(b"settle", &[Number(station)], page),
+        } => {
+            let values = List(values.as_slice());
+            let words = [Number(station), Number(number), Number(notice), values];
+            spell(head, &words, page)
+        }
         Call::Correct {
             generator,
             block,
             kw,
-        } => spell(
-            b"correct",
-            &[Number(generator), Number(block), Number(kw)],
-            page,
-        ),
-        Call::Pay { station, amount } => spell(b"pay", &[Number(station), Number(amount)], page),
-        Call::Draw { station, amount } => spell(b"draw", &[Number(station), Number(amount)], page),
+        } => spell(head, &[Number(generator), Number(block), Number(kw)], page),
+        Call::Pay { station, amount } | Call::Draw { station, amount } => {
+            spell(head, &[Number(station), Number(amount)], page)
+        }
     }
 }
 
@@ -139,7 +113,7 @@ pub fn spell_opening(opening: &Opening, page: &mut [u8]) -> Result<usize, Fault>
     ensures { wrote result page.new ≡ spelling (opens opening.now) page.old }
 {
     spell(
-        b"open",
+        Head::Open,
         &[
             List(opening.kinds.as_slice()),
             List(opening.counts.as_slice()),

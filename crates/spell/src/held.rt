@@ -21,12 +21,7 @@ fn is_small(n: u64) -> bool
 fn all_small(ns: &[u64]) -> bool
     ensures { result ≡ all_are_small ns.now }
 {
-    for n in ns {
-        if !is_small(*n) {
-            return false;
-        }
-    }
-    true
+    ns.iter().all(|n| is_small(*n))
 }
 
 /// Whether a form holds the word.
@@ -36,7 +31,7 @@ fn is_held(word: Word) -> bool
     match word {
         Word::Number(n) => is_small(*n),
         Word::Amount(_) => false,
-        Word::List(ns) => 1 <= ns.len() && ns.len() <= MOST_NUMBERS && all_small(ns),
+        Word::List(ns) => !ns.is_empty() && ns.len() <= MOST_NUMBERS && all_small(ns),
     }
 }
 
@@ -44,10 +39,8 @@ fn is_held(word: Word) -> bool
 pub fn held_words(words: &[Word]) -> usize
     ensures { result ≡ held_first (map held_word words.now) }
 {
-    for (i, word) in words.iter().enumerate() {
-        if !is_held(*word) {
-            return i;
-        }
-    }
-    words.len()
+    words
+        .iter()
+        .position(|word| !is_held(*word))
+        .unwrap_or(words.len())
 }

@@ -8,4 +8,4 @@ mod held;
 pub mod laws;
 pub mod statement;
 mod words;
-mod writers;
+mod writer;

@@ -3,14 +3,12 @@ ghost use Rattle.tariff.specs.Rates.{larger_rate, rate_refused, single};
 ghost use Rattle.units.specs.declared.fault.Fault.TheVariants.{HighRate};
 ghost use Rattle.tariff.specs.RatesLemmas.{rates_bounded};
 ghost use Rattle.tariff.specs.Charges.{deviation_of};
-ghost use Rattle.std.proofs.Common.{rules, arith};
+ghost use Rattle.std.proofs.Common.{rules};
 
 use crate::query::Query;
 use crate::tariff::Tariff;
 use units::fault::Fault;
-
-/// The highest rate, in paise for a kWh.
-const HIGHEST_RATE: u32 = 4_000;
+use units::limits::HIGHEST_RATE;
 
 /// One rate below the schedule and one above it, whatever the capacity.
 #[derive(Clone, Copy)]
@@ -53,13 +51,13 @@ impl Tariff for SingleRate {
 
     ghost code_of = { λ _. 40 };
 
-    ghost settled = { first_of (Prim.search rules, Prim.grind (arith, Self.row.coded.inj)) };
+    ghost settled = { Prim.search rules };
 
     ghost bounded = { λ t q. rates_bounded t.export t.domestic (deviation_of q) };
 
-    ghost capped = { first_of (Prim.search rules, Prim.grind (arith, Self.row.coded.inj)) };
+    ghost capped = { Prim.search rules };
 
-    ghost numbered = { first_of (Prim.search rules, Prim.grind (arith, Self.row.coded.inj)) };
+    ghost numbered = { Prim.search rules };
 
     fn charge(&self, query: Query) -> i64 {
         let magnitude = query.magnitude();

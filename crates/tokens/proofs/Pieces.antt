@@ -1,11 +1,11 @@
 -- What the readers of the parts of a line answer.
-use Rattle.std.proofs.Common.{◌≡◌, ℕ, suc, ◌+◌, ◌-◌, ◌<◌, ◌≤◌, true, false, ◌&&◌, eqb, ltb, List, [], ◌∷◌, ◌++◌, length, get_or, take, drop, Some, None, Option, sym, refl, ap, ◌∙◌, subst, ⊎_elim, append_assoc, add-zero, one-add, arith, length-append, take-append-drop, length-take-le, get_or-drop}
+use Rattle.std.proofs.Common.{◌≡◌, ℕ, suc, ◌+◌, ◌-◌, ◌<◌, ◌≤◌, true, false, ◌&&◌, eqb, ltb, List, [], ◌∷◌, ◌++◌, length, get_or, take, drop, Some, None, Option, Ok, Err, Result, MatchResult, IsErrAnd, sym, refl, ap, ◌∙◌, subst, ⊎_elim, append_assoc, add-zero, one-add, arith, length-append, take-append-drop, length-take-le, get_or-drop}
 use lib.Seq.{take-append-add}
 use Rattle.std.specs.Int.{is_in_range}
 use Rattle.std.proofs.lemmas.List.{take_rest, take_at, drop_more, get_or_at, get_or-append-add, length_push}
 use Rattle.std.proofs.lemmas.Bool.{cond_both, cond-true, cond-false, and_from, and_left, and_right, eqb-true, ne_eqb, eq-eqb, lt-ltb, le-ltb, le-leb, cases_lt}
 use Rattle.grammar.specs.Grammar.{spaced, Numbers, Arg, number, list, spelled_arg, SoundArg, Form}
-use Rattle.grammar.specs.Machine.{with_arg, top, inside, State, start, word, need, digits, closed, done, grows, step, stuck, outcome}
+use Rattle.grammar.specs.Machine.{with_arg, top, inside, State, start, word, need, digits, closed, grows, step, stuck, outcome}
 use Rattle.tokens.specs.Ends.{Ends}
 use Rattle.tokens.specs.Pieces.{Run, most_after, Counted, Shut, NoList, Argued, Headed, More}
 use Rattle.tokens.specs.Tokens.{arg_of, bytes_of}
@@ -246,3 +246,10 @@ next_argument line all bs rest p before e u =
       there.0,
       there.1,
     )
+
+-- what `map_err` answers, of a result that says so much
+pub mapped : {T E D : Type 0} (P : T → Type 0) (Q : E → Type 0) (C : E → D → Type 0) (r : Result T E) (s : Result T D) → MatchResult r (λ x. s ≡ Ok x) (λ e. IsErrAnd s (C e)) → MatchResult r P Q → MatchResult s P (λ d. (e : E) × C e d × Q e)
+mapped P Q C (Ok x) (Ok y) e p = let same : y ≡ x = cc in subst P (sym same) p
+mapped P Q C (Ok x) (Err d) e p = let z : ◌≡◌ {A = ℕ} 0 1 = cc in absurd (omega arith)
+mapped P Q C (Err x) (Ok y) e p = absurd e
+mapped P Q C (Err x) (Err d) e p = (x, e, p)

@@ -10,10 +10,10 @@ fn run(rest: &[u8], low: u8, high: u8, most: usize) -> usize
     requires { 0 < low }
     ensures { Run low high most rest.now result }
 {
-    match rest {
-        [b, tail @ ..] if most > 0 && low <= *b && *b <= high => 1 + run(tail, low, high, most - 1),
-        _ => 0,
-    }
+    rest.iter()
+        .take(most)
+        .take_while(|b| (low..=high).contains(b))
+        .count()
 }
 
 /// How many letters at the front are a word's.
@@ -45,10 +45,7 @@ pub fn number(rest: &[u8]) -> Option<(&[u8], &[u8])>
 pub fn past_space(rest: &[u8]) -> Option<&[u8]>
     ensures { MatchOption result ((tail : List ℕ) → rest.now ≢ 32 ∷ tail) (λ tail. rest.now ≡ 32 ∷ tail.now) }
 {
-    match rest.split_first() {
-        Some((b' ', tail)) => Some(tail),
-        _ => None,
-    }
+    rest.strip_prefix(b" ")
 }
 
 /// How many bytes at the front are 1 to `most` numbers with one space between, before a closing bracket;

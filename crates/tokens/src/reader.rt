@@ -30,16 +30,12 @@ impl<'a> Reader<'a> {
         ensures line { self.new.line.now ≡ self.old.line.now }
         ensures first { First self.old.line.now result self.new.rest.now }
     {
-        match word(self.line) {
-            Ok((letters, after)) => {
-                self.rest = after;
-                Ok(Token {
-                    part: Part::Word(letters),
-                    place: 1,
-                })
-            }
-            Err(left) => Err(not_form(self.line, left)),
-        }
+        let (letters, after) = word(self.line).map_err(|left| not_form(self.line, left))?;
+        self.rest = after;
+        Ok(Token {
+            part: Part::Word(letters),
+            place: 1,
+        })
     }
 
     /// The next argument, if the line does not end here.
@@ -49,21 +45,15 @@ impl<'a> Reader<'a> {
     {
         let Some(tail) = past_space(self.rest) else {
             return match self.rest {
-                [b')', tail @ ..] => match tail.len() {
-                    0 => Ok(None),
-                    left => Err(not_form(self.line, left)),
-                },
+                [b')'] => Ok(None),
+                [b')', tail @ ..] => Err(not_form(self.line, tail.len())),
                 _ => Err(not_form(self.line, self.rest.len())),
             };
         };
-        match argument(tail) {
-            Ok((part, after)) => {
-                let place = self.line.len() - tail.len();
-                self.rest = after;
-                Ok(Some(Token { part, place }))
-            }
-            Err(left) => Err(not_form(self.line, left)),
-        }
+        let (part, after) = argument(tail).map_err(|left| not_form(self.line, left))?;
+        let place = self.line.len() - tail.len();
+        self.rest = after;
+        Ok(Some(Token { part, place }))
     }
 }
 

@@ -8,6 +8,18 @@ pub enum Part<'a> {
     List(&'a [u8]),
 }
 
+/// A word of no letters.
+impl Default for Part<'_> {
+    ghost use Rattle.std.specs.Prelude.{◌≡◌, []};
+    ghost use Rattle.tokens.specs.Tokens.{bytes_of};
+
+    ghost is_default = { λ part. bytes_of part ≡ [] };
+
+    fn default() -> Self {
+        Part::Word(&[])
+    }
+}
+
 /// A part, and how many bytes of the line stand before it.
 #[derive(Clone, Copy, Debug)]
 pub struct Token<'a> {

@@ -1,8 +1,20 @@
 //! Why a call is refused.
-ghost use Rattle.units.specs.Faults.{refusal_of};
-ghost use Rattle.std.specs.Prelude.{◌≡◌};
+ghost use Rattle.units.specs.Faults.{refusal_of, refusal_text};
+ghost use Rattle.std.specs.Prelude.{◌≡◌, Some};
+ghost use Rattle.units.specs.declared.fault.Fault.TheVariants.{NoMemory};
 
 use crate::station::Phase;
+use std::alloc::AllocError;
+use std::fmt;
+
+/// A page that a caller lends with a call, by the number under which a refusal names it.
+#[derive(Clone, Copy, PartialEq, Eq, Debug)]
+pub enum Page {
+    Schedules = 1,
+    Capacities = 2,
+    Readings = 3,
+    Accounts = 4,
+}
 
 /// A cause of refusal, with what the answer says of it.
 #[derive(Clone, Copy, Debug)]
@@ -18,7 +30,7 @@ pub enum Fault {
     /// An installed power outside 1,000 to 200,000 kW.
     InstalledRange { generator: u64, kw: u64 },
     /// A page is too short.
-    ShortPage { page: u64, needed: u64 },
+    ShortPage { page: Page, needed: u64 },
     /// A rate above 4,000 paise per kWh.
     HighRate { rate: u64 },
     /// A penalty over a ceiling above 3,333, or with a capacity above 6,400,000 kW.
@@ -71,6 +83,18 @@ pub struct Refusal {
     pub place: (u64, u64),
 }
 
+/// As an answer writes it, without a line feed.
+impl fmt::Display for Refusal {
+    ghost output = { λ refusal. Some (refusal_text refusal) };
+
+    fn fmt<W: fmt::Write>(&self, f: &mut fmt::Formatter<W>) -> fmt::Result {
+        let layer = self.layer;
+        let number = self.number;
+        let (p, q) = self.place;
+        write!(f, "(no {layer} {number} {p} {q})")
+    }
+}
+
 const fn refusal_at(layer: u64, number: u64, p: u64, q: u64) -> Refusal
     ensures { result ≡ record { layer = layer; number = number; place = (p, q) } }
 {
@@ -92,7 +116,7 @@ impl Fault {
             Fault::BadStation { station } => refusal_at(0, 2, station, 0),
             Fault::InstalledCount { given, needed } => refusal_at(0, 3, given, needed),
             Fault::InstalledRange { generator, kw } => refusal_at(0, 4, generator, kw),
-            Fault::ShortPage { page, needed } => refusal_at(0, 5, page, needed),
+            Fault::ShortPage { page, needed } => refusal_at(0, 5, page as u64, needed),
             Fault::HighRate { rate } => refusal_at(0, 23, rate, 0),
             Fault::BadPenalty { value } => refusal_at(0, 24, value, 0),
             Fault::ShortOutput { length } => refusal_at(1, 6, length, 0),
@@ -115,5 +139,14 @@ impl Fault {
             Fault::DrawAboveDue { station, available } => refusal_at(3, 21, station, available),
             Fault::DrawAboveCash { station, cash } => refusal_at(3, 22, station, cash),
         }
+    }
+}
+
+/// A call that allocates is refused only for want of memory.
+impl From<AllocError> for Fault {
+    ghost from_gives = { λ _ fault. fault ≡ NoMemory };
+
+    fn from(_error: AllocError) -> Self {
+        Self::NoMemory
     }
 }

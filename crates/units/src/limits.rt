@@ -20,3 +20,6 @@ pub const LEAST_INSTALLED: u32 = 1_000;
 
 /// The most power that a generator has installed.
 pub const MOST_INSTALLED: u32 = 200_000;
+
+/// The highest rate of a single-rate tariff, in paise for a kWh.
+pub const HIGHEST_RATE: u32 = 4_000;

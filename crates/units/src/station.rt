@@ -1,9 +1,29 @@
 //! What kind a station is of, and how far its day has come.
+ghost use Rattle.units.specs.Stations.{IsKindNumbered};
 
+/// What drives a station.
 #[derive(Clone, Copy, PartialEq, Eq, Debug)]
 pub enum Kind {
     Wind,
     Solar,
+}
+
+/// A number that names no kind of station.
+#[derive(Clone, Copy, PartialEq, Eq, Debug)]
+pub struct UnknownKind(pub u64);
+
+impl TryFrom<u64> for Kind {
+    type Error = UnknownKind;
+
+    ghost try_from_gives = { IsKindNumbered };
+
+    fn try_from(number: u64) -> Result<Kind, UnknownKind> {
+        match number {
+            0 => Ok(Kind::Wind),
+            1 => Ok(Kind::Solar),
+            _ => Err(UnknownKind(number)),
+        }
+    }
 }
 
 /// Which calls a station takes depends on its phase.

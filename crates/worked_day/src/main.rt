@@ -2,7 +2,7 @@
 #![tactic(auto)]
 
 use anyhow::anyhow;
-use book::{Book, Pages};
+use book::{Book, Pages, Statement};
 use posting::account::Account;
 use share::key::UnitsKey;
 use std::alloc::{AllocError, Global};
@@ -17,22 +17,6 @@ fn opening(heap: Global) -> Result<Opening, AllocError> {
         kinds: vec![in heap; 0]?,
         counts: vec![in heap; 2]?,
         installed: vec![in heap; 1000, 3000]?,
-    })
-}
-
-/// Pages for one station and two generators.
-fn pages(heap: Global) -> Result<Pages, AllocError> {
-    let unread: Option<u32> = None;
-    let account = Account {
-        installed: 0,
-        money: 0,
-        energy: 0,
-    };
-    Ok(Pages {
-        schedules: vec![in heap; 0u32; 96]?,
-        capacities: vec![in heap; 0u32; 192]?,
-        readings: vec![in heap; unread; 192]?,
-        accounts: vec![in heap; account; 2]?,
     })
 }
 
@@ -93,61 +77,65 @@ fn after_settlement(heap: Global) -> Result<Vec<Call>, AllocError> {
     ]?)
 }
 
-fn show_fault(rt: &impl Print, fault: &Fault) -> io::Result<()> {
-    let refusal = fault.refusal();
-    let layer = refusal.layer;
-    let number = refusal.number;
-    let (p, q) = refusal.place;
-    println!(rt; "(no {layer} {number} {p} {q})")
-}
-
 fn show_answers(rt: &impl Print, answers: &[Result<(), Fault>]) -> io::Result<()> {
     for answer in answers {
         match answer {
-            Ok(_) => println!(rt; "(ok)")?,
-            Err(fault) => show_fault(rt, fault)?,
+            Ok(()) => println!(rt; "(ok)")?,
+            Err(fault) => show_refusal(rt, fault)?,
         }
     }
     Ok(())
 }
 
-fn show_statement(rt: &impl Print, book: &Book<Banded, UnitsKey>, pages: &Pages) -> io::Result<()> {
-    match book.statement(pages, 0) {
-        Ok(statement) => {
-            let station = statement.station;
-            let code = statement.code;
-            let charges = statement.charges;
-            let due = statement.due;
-            let cash = statement.cash;
-            println!(rt; "(station {station} {code} {charges} {due} {cash})")?;
-            for (k, account) in statement.accounts.iter().enumerate() {
-                let generator = statement.first.saturating_add(k);
-                let energy = account.energy;
-                let money = account.money;
-                println!(rt; "(generator {generator} {energy} {money})")?;
-            }
-            Ok(())
-        }
-        Err(fault) => show_fault(rt, &fault),
+fn show_refusal(rt: &impl Print, fault: &Fault) -> io::Result<()> {
+    rt.println(fault.refusal())
+}
+
+fn show_statement(rt: &impl Print, statement: &Statement) -> io::Result<()> {
+    let Statement {
+        station,
+        code,
+        charges,
+        due,
+        cash,
+        ..
+    } = statement;
+    println!(rt; "(station {station} {code} {charges} {due} {cash})")?;
+    for (k, account) in statement.accounts.iter().enumerate() {
+        let generator = statement.first.saturating_add(k);
+        let Account { energy, money, .. } = account;
+        println!(rt; "(generator {generator} {energy} {money})")?;
     }
+    Ok(())
+}
+
+/// Makes the calls in turn, and shows each answer.
+fn make(
+    rt: &HostRuntime,
+    book: &mut Book<Banded, UnitsKey>,
+    pages: &mut Pages,
+    calls: &[Call],
+) -> anyhow::Result<()> {
+    let Ok(answers) = book.replay(rt.alloc(), pages, calls) else {
+        return Err(anyhow!("no memory for the answers"));
+    };
+    show_answers(rt, &answers)?;
+    Ok(())
 }
 
 fn run(rt: &HostRuntime) -> anyhow::Result<()> {
     let heap = rt.alloc();
-    let mut pages = pages(heap)?;
+    let mut pages = Pages::new(heap, 1, 2)?;
     let Ok(mut book) = Book::open(heap, Banded::From10, UnitsKey, &opening(heap)?, &mut pages)
     else {
         return Err(anyhow!("the book was not opened"));
     };
-    let Ok(answers) = book.replay(heap, &mut pages, &until_settled(heap)?) else {
-        return Err(anyhow!("no memory for the answers"));
-    };
-    show_answers(rt, &answers)?;
-    let Ok(answers) = book.replay(heap, &mut pages, &after_settlement(heap)?) else {
-        return Err(anyhow!("no memory for the answers"));
-    };
-    show_answers(rt, &answers)?;
-    show_statement(rt, &book, &pages)?;
+    make(rt, &mut book, &mut pages, &until_settled(heap)?)?;
+    make(rt, &mut book, &mut pages, &after_settlement(heap)?)?;
+    match book.statement(&pages, 0) {
+        Ok(statement) => show_statement(rt, &statement)?,
+        Err(fault) => show_refusal(rt, &fault)?,
+    }
     Ok(())
 }
 

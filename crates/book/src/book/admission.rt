@@ -1,18 +1,18 @@
 //! What every call tests first: the pages, the station or generator, and the station's phase.
-ghost use Rattle.std.specs.Prelude.{◌≡◌, ◌≤◌};
+ghost use Rattle.std.specs.Prelude.{◌≡◌, ◌≤◌, position};
 ghost use Rattle.book.specs.Refusals.{Checks};
-ghost use Rattle.book.specs.States.{admission, Admitted, Fit, Found, generator_admission, generator_presence, lengths_in, no_station_of, Owned, Owner, owner_from, presence, Room, short_for, short_page, short_pages, state, StationIs};
+ghost use Rattle.book.specs.States.{admission, Admitted, Fit, Found, generator_admission, generator_presence, lengths_in, no_station_of, Owned, Owner, presence, reaches, Room, short_for, short_page, short_pages, state, StationIs};
 
 use super::Book;
 use crate::pages::Pages;
 use crate::station::{Action, Station};
 use share::key::Key;
 use tariff::tariff::Tariff;
-use units::fault::Fault;
+use units::fault::{Fault, Page};
 use units::limits::BLOCKS;
 
 /// A page of `length` entries has the needed ones.
-fn long_enough(page: u64, length: usize, needed: usize) -> Result<(), Fault>
+fn long_enough(page: Page, length: usize, needed: usize) -> Result<(), Fault>
     ensures { Checks (short_page page length needed) (λ _. needed ≤ length) result }
 {
     if length < needed {
@@ -30,10 +30,14 @@ pub fn fitting_pages(pages: &Pages, stations: usize, generators: usize) -> Resul
     requires most { generators ≤ 512 }
     ensures { Checks (short_for stations generators (lengths_in pages.now)) (λ _. Room stations generators (lengths_in pages.now)) result }
 {
-    long_enough(1, pages.schedules.len(), BLOCKS * stations)?;
-    long_enough(2, pages.capacities.len(), BLOCKS * generators)?;
-    long_enough(3, pages.readings.len(), BLOCKS * generators)?;
-    long_enough(4, pages.accounts.len(), generators)
+    long_enough(Page::Schedules, pages.schedules.len(), BLOCKS * stations)?;
+    long_enough(
+        Page::Capacities,
+        pages.capacities.len(),
+        BLOCKS * generators,
+    )?;
+    long_enough(Page::Readings, pages.readings.len(), BLOCKS * generators)?;
+    long_enough(Page::Accounts, pages.accounts.len(), generators)
 }
 
 impl<T: Tariff, K: Key> Book<T, K> {
@@ -46,7 +50,7 @@ impl<T: Tariff, K: Key> Book<T, K> {
 
     /// There is such a station.
     pub(crate) fn station(&self, t: u64) -> Result<Station, Fault>
-        ensures { Checks (no_station_of self.now.stations.items t) (StationIs self.now.stations.items t) result }
+        ensures { Checks (no_station_of self.now.stations.items t) (StationIs self.now.stations.items self.now.cash t) result }
     {
         match self.stations.get(t as usize) {
             Some(station) => Ok(*station),
@@ -67,25 +71,16 @@ impl<T: Tariff, K: Key> Book<T, K> {
         ensures { Checks (admission action t (state self.now pages.now)) (Admitted action t (state self.now pages.now)) result }
     {
         let station = self.find_station(pages, t)?;
-        match station.next_phase(action) {
-            Some(phase) => Ok(Station { phase, ..station }),
-            None => Err(Fault::WrongPhase {
-                station: t,
-                phase: station.phase,
-            }),
-        }
+        station.moved(t, action)
     }
 
-    /// The station that has the generator or one after it.
-    fn owner(&self, generator: usize) -> usize
-        ensures { result ≡ owner_from 0 self.now.stations.items generator }
+    /// The first station that has the generator or one after it.
+    fn owner(&self, generator: u64) -> Option<usize>
+        ensures { result ≡ position (reaches generator) self.now.stations.items }
     {
-        for (t, station) in self.stations.iter().enumerate() {
-            if generator < station.members.first() + station.members.count() {
-                return t;
-            }
-        }
-        self.stations.len()
+        self.stations
+            .iter()
+            .position(|station| generator < station.members.end() as u64)
     }
 
     /// The pages fit, and there is such a generator: its station's number.
@@ -93,10 +88,8 @@ impl<T: Tariff, K: Key> Book<T, K> {
         ensures { Checks (generator_presence generator (state self.now pages.now)) (Owner generator (state self.now pages.now)) result }
     {
         self.fit(pages)?;
-        if generator >= self.generators as u64 {
-            return Err(Fault::NoSuchNumber { number: generator });
-        }
-        Ok(self.owner(generator as usize))
+        self.owner(generator)
+            .ok_or(Fault::NoSuchNumber { number: generator })
     }
 
     /// The generator's station, with its number, if there is such a generator and its station takes the action.
@@ -109,13 +102,7 @@ impl<T: Tariff, K: Key> Book<T, K> {
         ensures { Checks (generator_admission action generator (state self.now pages.now)) (Owned action generator (state self.now pages.now)) result }
     {
         let t = self.find_generator(pages, generator)?;
-        let station = self.stations[t];
-        match station.next_phase(action) {
-            Some(phase) => Ok((t, Station { phase, ..station })),
-            None => Err(Fault::WrongPhase {
-                station: t as u64,
-                phase: station.phase,
-            }),
-        }
+        let station = self.stations[t].moved(t as u64, action)?;
+        Ok((t, station))
     }
 }

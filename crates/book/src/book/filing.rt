@@ -1,7 +1,5 @@
 //! Calls on schedules.
-ghost use Rattle.book.specs.Calls.{closing, Does, filing, issuing, revising};
-ghost use Rattle.book.specs.States.{state};
-ghost use Rattle.std.specs.Prelude.{◌≡◌};
+ghost use Rattle.book.specs.Calls.{closing, filing, issuing, Makes, revising};
 
 use super::Book;
 use crate::checks::in_blocks;
@@ -22,24 +20,20 @@ impl<T: Tariff, K: Key> Book<T, K> {
         to: u64,
         kw: u64,
     ) -> Result<(), Fault>
-        ensures does { Does (filing t from to kw (state self.old pages.old)) result (state self.new pages.new) }
-        ensures tariff { self.new.tariff ≡ self.old.tariff }
-        ensures key { self.new.key ≡ self.old.key }
+        ensures { Makes (filing t from to kw) self.old pages.old self.new pages.new result }
     {
         let mut station = self.admit(pages, t, Action::File)?;
         let kw = in_blocks(from, to, STATION_KW, kw)?;
         station.file(from as u8, to as u8);
         self.put(t as usize, station, self.cash);
         let start = BLOCKS * t as usize + from as usize;
-        pages.fill_schedules(start, (to - from + 1) as usize, kw);
+        pages.schedules[start..start + (to - from + 1) as usize].fill(kw);
         Ok(())
     }
 
     /// Station `t` issues its schedule.
     pub fn issue(&mut self, pages: &mut Pages, t: u64) -> Result<(), Fault>
-        ensures does { Does (issuing t (state self.old pages.old)) result (state self.new pages.new) }
-        ensures tariff { self.new.tariff ≡ self.old.tariff }
-        ensures key { self.new.key ≡ self.old.key }
+        ensures { Makes (issuing t) self.old pages.old self.new pages.new result }
     {
         let station = self.admit(pages, t, Action::Issue)?;
         let block = station.filed.first_absent();
@@ -62,24 +56,20 @@ impl<T: Tariff, K: Key> Book<T, K> {
         notice: u64,
         values: &[u64],
     ) -> Result<(), Fault>
-        ensures does { Does (revising t number notice values.now (state self.old pages.old)) result (state self.new pages.new) }
-        ensures tariff { self.new.tariff ≡ self.old.tariff }
-        ensures key { self.new.key ≡ self.old.key }
+        ensures { Makes (revising t number notice values.now) self.old pages.old self.new pages.new result }
     {
         let mut station = self.admit(pages, t, Action::Revise)?;
         let (slot, schedule) = station.revision(number, notice, values)?;
         station.revise(slot);
         self.put(t as usize, station, self.cash);
         let start = BLOCKS * t as usize + notice as usize + 3;
-        pages.write_schedules(start, &schedule[0..values.len()]);
+        pages.schedules[start..start + schedule.len()].copy_from_slice(&schedule);
         Ok(())
     }
 
     /// The day of station `t` is over.
     pub fn close(&mut self, pages: &mut Pages, t: u64) -> Result<(), Fault>
-        ensures does { Does (closing t (state self.old pages.old)) result (state self.new pages.new) }
-        ensures tariff { self.new.tariff ≡ self.old.tariff }
-        ensures key { self.new.key ≡ self.old.key }
+        ensures { Makes (closing t) self.old pages.old self.new pages.new result }
     {
         let station = self.admit(pages, t, Action::Close)?;
         self.put(t as usize, station, self.cash);

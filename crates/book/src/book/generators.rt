@@ -1,7 +1,5 @@
 //! Calls on capacities and readings.
-ghost use Rattle.book.specs.Calls.{declaring, Does, metering};
-ghost use Rattle.book.specs.States.{state};
-ghost use Rattle.std.specs.Prelude.{◌≡◌};
+ghost use Rattle.book.specs.Calls.{declaring, Makes, metering};
 
 use super::Book;
 use crate::checks::in_blocks;
@@ -22,14 +20,12 @@ impl<T: Tariff, K: Key> Book<T, K> {
         to: u64,
         kw: u64,
     ) -> Result<(), Fault>
-        ensures does { Does (declaring generator from to kw (state self.old pages.old)) result (state self.new pages.new) }
-        ensures tariff { self.new.tariff ≡ self.old.tariff }
-        ensures key { self.new.key ≡ self.old.key }
+        ensures { Makes (declaring generator from to kw) self.old pages.old self.new pages.new result }
     {
         self.admit_generator(pages, generator, Action::Declare)?;
         let kw = in_blocks(from, to, pages.installed(generator as usize), kw)?;
         let start = BLOCKS * generator as usize + from as usize;
-        pages.fill_capacities(start, (to - from + 1) as usize, kw);
+        pages.capacities[start..start + (to - from + 1) as usize].fill(kw);
         Ok(())
     }
 
@@ -42,14 +38,12 @@ impl<T: Tariff, K: Key> Book<T, K> {
         to: u64,
         kw: u64,
     ) -> Result<(), Fault>
-        ensures does { Does (metering generator from to kw (state self.old pages.old)) result (state self.new pages.new) }
-        ensures tariff { self.new.tariff ≡ self.old.tariff }
-        ensures key { self.new.key ≡ self.old.key }
+        ensures { Makes (metering generator from to kw) self.old pages.old self.new pages.new result }
     {
         self.admit_generator(pages, generator, Action::Read)?;
         let kw = in_blocks(from, to, GENERATOR_KW, kw)?;
         let start = BLOCKS * generator as usize + from as usize;
-        pages.fill_readings(start, (to - from + 1) as usize, kw);
+        pages.readings[start..start + (to - from + 1) as usize].fill(Some(kw));
         Ok(())
     }
 }

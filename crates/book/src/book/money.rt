@@ -1,7 +1,5 @@
 //! Calls on money.
-ghost use Rattle.book.specs.Calls.{Does, drawing, payment};
-ghost use Rattle.book.specs.States.{state};
-ghost use Rattle.std.specs.Prelude.{◌≡◌};
+ghost use Rattle.book.specs.Calls.{drawing, Makes, payment};
 
 use super::Book;
 use crate::checks::sound_amount;
@@ -16,9 +14,7 @@ const CASH_LIMIT: u64 = 1_000_000_000_000_000;
 impl<T: Tariff, K: Key> Book<T, K> {
     /// Station `t` pays into the pool.
     pub fn pay(&mut self, pages: &mut Pages, t: u64, amount: u64) -> Result<(), Fault>
-        ensures does { Does (payment t amount (state self.old pages.old)) result (state self.new pages.new) }
-        ensures tariff { self.new.tariff ≡ self.old.tariff }
-        ensures key { self.new.key ≡ self.old.key }
+        ensures { Makes (payment t amount) self.old pages.old self.new pages.new result }
     {
         let mut station = self.find_station(pages, t)?;
         sound_amount(t, amount)?;
@@ -36,9 +32,7 @@ impl<T: Tariff, K: Key> Book<T, K> {
 
     /// Station `t` draws from the pool.
     pub fn draw(&mut self, pages: &mut Pages, t: u64, amount: u64) -> Result<(), Fault>
-        ensures does { Does (drawing t amount (state self.old pages.old)) result (state self.new pages.new) }
-        ensures tariff { self.new.tariff ≡ self.old.tariff }
-        ensures key { self.new.key ≡ self.old.key }
+        ensures { Makes (drawing t amount) self.old pages.old self.new pages.new result }
     {
         let mut station = self.find_station(pages, t)?;
         sound_amount(t, amount)?;

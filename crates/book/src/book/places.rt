@@ -1,5 +1,5 @@
 //! Puts a changed station back.
-ghost use Rattle.std.specs.Prelude.{◌≡◌, ◌^◌, ◌<◌, ◌≤◌, vec_len, slice_set};
+ghost use Rattle.std.specs.Prelude.{◌≡◌, slice_set};
 ghost use Rattle.book.specs.Sound.{Changes};
 
 use super::Book;

@@ -1,5 +1,5 @@
 //! Calls that post a day's charges and shares.
-ghost use Rattle.book.specs.Calls.{correcting, Does, posted, settling};
+ghost use Rattle.book.specs.Calls.{correcting, Makes, posted, settling};
 ghost use Rattle.book.specs.Sound.{Changes};
 ghost use Rattle.book.specs.States.{state};
 ghost use Rattle.std.specs.Prelude.{◌≡◌};
@@ -29,9 +29,7 @@ impl<T: Tariff, K: Key> Book<T, K> {
 
     /// The charges and shares of station `t` are posted.
     pub fn settle(&mut self, pages: &mut Pages, t: u64) -> Result<(), Fault>
-        ensures does { Does (settling (T.Tariff.charge_of self.old.tariff) K.Key.weighs t (state self.old pages.old)) result (state self.new pages.new) }
-        ensures tariff { self.new.tariff ≡ self.old.tariff }
-        ensures key { self.new.key ≡ self.old.key }
+        ensures { Makes (settling (T.Tariff.charge_of self.old.tariff) K.Key.weighs t) self.old pages.old self.new pages.new result }
     {
         let station = self.admit(pages, t, Action::Settle)?;
         complete(&pages.readings, station.members, None)?;
@@ -47,9 +45,7 @@ impl<T: Tariff, K: Key> Book<T, K> {
         block: u64,
         kw: u64,
     ) -> Result<(), Fault>
-        ensures does { Does (correcting (T.Tariff.charge_of self.old.tariff) K.Key.weighs generator block kw (state self.old pages.old)) result (state self.new pages.new) }
-        ensures tariff { self.new.tariff ≡ self.old.tariff }
-        ensures key { self.new.key ≡ self.old.key }
+        ensures { Makes (correcting (T.Tariff.charge_of self.old.tariff) K.Key.weighs generator block kw) self.old pages.old self.new pages.new result }
     {
         let (t, station) = self.admit_generator(pages, generator, Action::Correct)?;
         let kw = in_blocks(block, block, GENERATOR_KW, kw)?;
@@ -58,7 +54,7 @@ impl<T: Tariff, K: Key> Book<T, K> {
             block: block as usize,
         };
         complete(&pages.readings, station.members, Some(place))?;
-        pages.fill_readings(BLOCKS * place.generator + place.block, 1, kw);
+        pages.readings[BLOCKS * place.generator + place.block] = Some(kw);
         self.post(pages, t, station);
         Ok(())
     }

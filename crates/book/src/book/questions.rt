@@ -1,17 +1,17 @@
 //! Questions. They alter nothing.
-ghost use Rattle.std.specs.Prelude.{◌≡◌, ◌≤◌, get_or, take, drop, slice_index_or};
-ghost use Rattle.book.specs.Questions.{account_answer, charge_answer, charge_refusal, progress_of, share_answer, share_refusal};
+ghost use Rattle.std.specs.Prelude.{◌≡◌, ◌≤◌, slice_index_or};
+ghost use Rattle.book.specs.Questions.{account_answer, charge_answer, charge_refusal, progress_of, share_answer, share_refusal, Stated};
 ghost use Rattle.book.specs.Refusals.{Checks};
 ghost use Rattle.book.specs.Sound.{slots_of};
-ghost use Rattle.book.specs.States.{generator_presence, no_station_of, nobody, presence, state, station_at};
+ghost use Rattle.book.specs.States.{generator_presence, no_station_of, nobody, presence, state};
 ghost use Rattle.book.specs.Stations.{due_of};
 
 use super::Book;
-use crate::answers::{Amounts, Progress, Statement};
+use crate::answers::{Progress, Statement};
 use crate::checks::block_read;
-use crate::pages::Pages;
+use crate::pages::{Pages, day};
 use crate::station::Action;
-use posting::block::{block_figures, block_shares};
+use posting::amounts::Amounts;
 use share::key::Key;
 use tariff::tariff::Tariff;
 use units::fault::Fault;
@@ -19,7 +19,7 @@ use units::fault::Fault;
 impl<T: Tariff, K: Key> Book<T, K> {
     /// How far the day of station `t` has come.
     pub fn progress(&self, t: u64) -> Result<Progress, Fault>
-        ensures { Checks (no_station_of self.now.stations.items t) (λ p. (p ≡ progress_of (slice_index_or self.now.stations.items t nobody)) × (p.filed ≤ 96) × (p.revisions ≤ slots_of (get_or self.now.stations.items t nobody).kind)) result }
+        ensures { Checks (no_station_of self.now.stations.items t) (λ p. (p ≡ progress_of (slice_index_or self.now.stations.items t nobody)) × (p.filed ≤ 96) × (p.revisions ≤ slots_of (slice_index_or self.now.stations.items t nobody).kind)) result }
     {
         let station = self.station(t)?;
         Ok(station.progress())
@@ -46,19 +46,14 @@ impl<T: Tariff, K: Key> Book<T, K> {
     {
         let station = self.admit(pages, t, Action::Ask)?;
         block_read(&pages.readings, station.members, block)?;
-        let day = pages.lent();
-        let figures = block_figures(
+        let day = day(
             &self.tariff,
+            &self.key,
             t as u8,
             station.members,
-            &day,
-            &pages.accounts,
-            block as u8,
+            pages.lent(),
         );
-        Ok(Amounts {
-            money: figures.charge,
-            energy: figures.deviation,
-        })
+        Ok(day.figures(&pages.accounts, block as u8))
     }
 
     /// What the generator gets of its station's charge for the block, and of its energy deviation.
@@ -67,21 +62,16 @@ impl<T: Tariff, K: Key> Book<T, K> {
     {
         let (t, station) = self.admit_generator(pages, generator, Action::Ask)?;
         block_read(&pages.readings, station.members, block)?;
-        let day = pages.lent();
-        let shares = block_shares(
+        let day = day(
             &self.tariff,
             &self.key,
             t as u8,
             station.members,
-            &day,
-            &pages.accounts,
-            block as u8,
+            pages.lent(),
         );
+        let shares = day.shares(&pages.accounts, block as u8);
         let k = generator as usize - station.members.first();
-        Ok(Amounts {
-            money: shares.money[k],
-            energy: shares.energy[k],
-        })
+        Ok(shares.each[k])
     }
 
     /// What stands on the generator's account.
@@ -98,7 +88,7 @@ impl<T: Tariff, K: Key> Book<T, K> {
 
     /// The figures of the statement of station `t`.
     pub fn statement<'a>(&self, pages: &'a Pages, t: u64) -> Result<Statement<'a>, Fault>
-        ensures { Checks (presence t (state self.now pages.now)) (λ s. (s.station ≡ t) × (s.code ≡ T.Tariff.code_of self.now.tariff) × (s.charges ≡ (station_at (state self.now pages.now) t).charges) × (s.due ≡ due_of (station_at (state self.now pages.now) t)) × (s.cash ≡ self.now.cash) × (s.first ≡ (station_at (state self.now pages.now) t).members.first) × (s.accounts.now ≡ take (station_at (state self.now pages.now) t).members.count (drop (station_at (state self.now pages.now) t).members.first pages.now.accounts.items))) result }
+        ensures { Checks (presence t (state self.now pages.now)) (Stated (T.Tariff.code_of self.now.tariff) t (state self.now pages.now)) result }
     {
         let station = self.find_station(pages, t)?;
         let first = station.members.first();
@@ -110,7 +100,7 @@ impl<T: Tariff, K: Key> Book<T, K> {
             due: station.due(),
             cash: self.cash,
             first,
-            accounts: &accounts[first..first + station.members.count()],
+            accounts: &accounts[first..station.members.end()],
         })
     }
 }

@@ -1,5 +1,5 @@
 //! Calls by their values, one or a list of them.
-ghost use Rattle.book.specs.Calls.{Does};
+ghost use Rattle.book.specs.Calls.{Makes};
 ghost use Rattle.book.specs.Runs.{Run, step};
 ghost use Rattle.book.specs.States.{state};
 ghost use Rattle.std.specs.Prelude.{◌≡◌, MatchResult};
@@ -16,9 +16,7 @@ use units::fault::Fault;
 impl<T: Tariff, K: Key> Book<T, K> {
     /// Makes the call.
     pub fn apply(&mut self, pages: &mut Pages, call: &Call) -> Result<(), Fault>
-        ensures does { Does (step (T.Tariff.charge_of self.old.tariff) K.Key.weighs call.now (state self.old pages.old)) result (state self.new pages.new) }
-        ensures tariff { self.new.tariff ≡ self.old.tariff }
-        ensures key { self.new.key ≡ self.old.key }
+        ensures { Makes (step (T.Tariff.charge_of self.old.tariff) K.Key.weighs call.now) self.old pages.old self.new pages.new result }
     {
         match call {
             Call::File {
@@ -69,9 +67,7 @@ impl<T: Tariff, K: Key> Book<T, K> {
         ensures tariff { self.new.tariff ≡ self.old.tariff }
         ensures key { self.new.key ≡ self.old.key }
     {
-        let Ok(mut answers) = Vec::with_capacity(heap, calls.len()) else {
-            return Err(Fault::NoMemory);
-        };
+        let mut answers = Vec::with_capacity(heap, calls.len())?;
         for call in calls {
             let answer = self.apply(pages, call);
             answers.push_reserved(answer);

@@ -1,5 +1,5 @@
 //! The numbers of a station's generators.
-ghost use Rattle.std.specs.Prelude.{◌≡◌, ◌<◌, ◌≤◌, MatchOption};
+ghost use Rattle.std.specs.Prelude.{◌≡◌, ◌+◌, MatchOption};
 ghost use Rattle.posting.specs.Members.{Numbered};
 
 use crate::members::Members;
@@ -13,7 +13,7 @@ impl Members {
     pub fn of(first: usize, count: usize) -> Option<Members>
         ensures { MatchOption result (Numbered first count → ⊥) (λ m. (m.first ≡ first) × (m.count ≡ count)) }
     {
-        if first <= LAST_FIRST && 1 <= count && count <= GENERATORS {
+        if first <= LAST_FIRST && (1..=GENERATORS).contains(&count) {
             Some(Members { first, count })
         } else {
             None
@@ -30,5 +30,13 @@ impl Members {
         ensures { result ≡ self.now.count }
     {
         self.count
+    }
+
+    /// The first number past the last generator.
+    pub fn end(&self) -> usize
+        ensures { result ≡ self.now.first + self.now.count }
+    {
+        let Members { first, count } = *self;
+        first + count
     }
 }

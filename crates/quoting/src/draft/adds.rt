@@ -13,12 +13,12 @@ use crate::complaint::{Cause, Quantity};
 use crate::draft::Draft;
 use crate::entry::{Entry, TariffName};
 use crate::request::Request;
+use arrayvec::ArrayVec;
 use share::generator::Generator;
+use share::load::Load;
+use tariff::banded::Banded;
 use tariff::single::SingleRate;
-use units::limits::{GENERATOR_KW, GENERATORS, LEAST_INSTALLED, MOST_INSTALLED, STATION_KW};
-
-/// The highest rate, in paise for a kWh.
-const HIGHEST_RATE: u32 = 4_000;
+use units::limits::{GENERATOR_KW, HIGHEST_RATE, LEAST_INSTALLED, MOST_INSTALLED, STATION_KW};
 
 /// Refuses a number above its limit.
 fn at_most(quantity: Quantity, value: u32, limit: u32) -> Result<(), Cause>
@@ -39,28 +39,26 @@ fn priced(name: TariffName) -> Result<TariffChoice, Cause>
         TariffName::Rates { export, domestic } => {
             at_most(Quantity::ExportRate, export, HIGHEST_RATE)?;
             at_most(Quantity::DomesticRate, domestic, HIGHEST_RATE)?;
-            match SingleRate::new(export, domestic) {
-                Ok(rates) => Ok(TariffChoice::Rates(rates)),
-                Err(_) => unreachable(),
-            }
+            let rates = SingleRate::new(export, domestic).unwrap();
+            Ok(TariffChoice::Rates(rates))
         }
     }
 }
 
 /// A generator whose numbers are within their limits.
-fn metered(installed: u32, capacity: u32, reading: u32) -> Result<Generator, Cause>
-    ensures { MatchResult result (λ g. (first (load_tests installed capacity reading) ≡ None) × (g.load ≡ record { actual = reading; capacity = capacity; installed = installed })) (λ e. first (load_tests installed capacity reading) ≡ Some e) }
+fn metered(load: Load) -> Result<Generator, Cause>
+    ensures { MatchResult result (λ g. (first (load_tests load) ≡ None) × (g.load ≡ load)) (λ e. first (load_tests load) ≡ Some e) }
 {
-    if installed < LEAST_INSTALLED {
+    if load.installed < LEAST_INSTALLED {
         return Err(Cause::Under {
             quantity: Quantity::Installed,
             limit: LEAST_INSTALLED,
         });
     }
-    at_most(Quantity::Installed, installed, MOST_INSTALLED)?;
-    at_most(Quantity::Capacity, capacity, installed)?;
-    at_most(Quantity::Reading, reading, GENERATOR_KW)?;
-    Ok(Generator::new(installed, capacity, reading))
+    at_most(Quantity::Installed, load.installed, MOST_INSTALLED)?;
+    at_most(Quantity::Capacity, load.capacity, load.installed)?;
+    at_most(Quantity::Reading, load.actual, GENERATOR_KW)?;
+    Ok(Generator::new(load))
 }
 
 impl Draft {
@@ -72,8 +70,7 @@ impl Draft {
             tariff: None,
             key: None,
             schedule: None,
-            generators: [Generator::new(LEAST_INSTALLED, 0, 0); 32],
-            count: 0,
+            generators: ArrayVec::new(),
         }
     }
 
@@ -95,11 +92,7 @@ impl Draft {
             Entry::Tariff(name) => self.add_tariff(name),
             Entry::Key(key) => self.add_key(key),
             Entry::Schedule(kw) => self.add_schedule(kw),
-            Entry::Generator {
-                installed,
-                capacity,
-                reading,
-            } => self.add_generator(installed, capacity, reading),
+            Entry::Generator(load) => self.add_generator(load),
         }
     }
 
@@ -134,31 +127,33 @@ impl Draft {
         Ok(())
     }
 
-    fn add_generator(&mut self, installed: u32, capacity: u32, reading: u32) -> Result<(), Cause>
-        ensures { Added self.old (entries.Generator installed capacity reading) result self.new }
+    fn add_generator(&mut self, load: Load) -> Result<(), Cause>
+        ensures { Added self.old (entries.Generator load) result self.new }
     {
         if self.schedule.is_none() {
             return Err(Cause::EarlyGenerator);
         }
-        if self.count == GENERATORS {
+        if self.generators.is_full() {
             return Err(Cause::ManyGenerators);
         }
-        let generator = metered(installed, capacity, reading)?;
-        self.generators[self.count] = generator;
-        self.count += 1;
+        self.generators.push(metered(load)?);
         Ok(())
     }
 
-    /// The request, if nothing is missing.
+    /// The request, if nothing is missing. Where no tariff is named it is that of bands from 10 percent, and where
+    /// no key is named it is that of units.
     pub fn finish(self) -> Result<Request, Cause>
         ensures { MatchResult result (λ q. (first (ending (given_in self)) ≡ None) × Made (given_in self) q) (λ e. first (ending (given_in self)) ≡ Some e) }
     {
-        let Some(schedule) = self.schedule else {
-            return Err(Cause::NoSchedule);
-        };
-        if self.count == 0 {
+        let schedule = self.schedule.ok_or(Cause::NoSchedule)?;
+        if self.generators.is_empty() {
             return Err(Cause::NoGenerator);
         }
-        Ok(Request::new(self.tariff, self.key, schedule, self.generators, self.count))
+        Ok(Request {
+            tariff: self.tariff.unwrap_or(TariffChoice::Bands(Banded::From10)),
+            key: self.key.unwrap_or(KeyChoice::Units),
+            schedule,
+            generators: self.generators,
+        })
     }
 }

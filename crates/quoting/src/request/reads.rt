@@ -11,16 +11,12 @@ pub fn read_request(text: &str) -> Result<Request, Complaint>
     ensures { MatchResult result (Granted text.now) (Refused text.now) }
 {
     let mut draft = Draft::new();
-    let mut line = 1;
-    let mut lines = text.lines();
-    while let Some(written) = lines.next() {
-        if let Err(cause) = draft.read_line(written) {
-            return Err(Complaint { line, cause });
-        }
-        line += 1;
+    for (above, written) in text.lines().enumerate() {
+        draft.read_line(written).map_err(|cause| Complaint {
+            line: above + 1,
+            cause,
+        })?;
     }
-    match draft.finish() {
-        Ok(request) => Ok(request),
-        Err(cause) => Err(Complaint { line, cause }),
-    }
+    let line = text.lines().count() + 1;
+    draft.finish().map_err(|cause| Complaint { line, cause })
 }

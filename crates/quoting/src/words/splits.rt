@@ -1,13 +1,11 @@
 //! A line's words, and the numbers among them.
 ghost use Rattle.quoting.specs.Words.{FirstWords, number_in, number_of, words_of};
-ghost use Rattle.std.specs.Prelude.{◌≡◌, ◌<◌, ◌≤◌, [], length, MatchResult, ◌≢◌, slice_index_or};
+ghost use Rattle.std.specs.Prelude.{◌≡◌, ◌<◌, ◌≤◌, [], length, MatchResult, ◌≢◌, ◌==◌, slice_index_or};
 ghost use Rattle.quoting.specs.declared.complaint.Cause.TheVariants as cause;
 
 use crate::complaint::Cause;
-use crate::words::Words;
-
-/// The most words that are read.
-const MOST: usize = 5;
+use crate::words::{MOST, Words};
+use arrayvec::ArrayVec;
 
 /// A number in digits alone. One that does not fit is taken as the largest that does, which is above every limit.
 fn number(word: &str) -> Option<u32>
@@ -29,44 +27,35 @@ fn number(word: &str) -> Option<u32>
 }
 
 impl<'a> Words<'a> {
+    #[tactic(auto, using(crate::proofs::Spacing::spaced_push, std::proofs::lemmas::List::map_push))]
     pub fn of(line: &'a str) -> Words<'a>
         ensures { FirstWords line.now (words_of result) }
     {
-        let mut rest = line.split_whitespace();
-        let mut each = [""; 5];
-        let mut count = 0;
-        while count < MOST {
-            let Some(word) = rest.next() else {
-                return Words { each, count };
-            };
-            each[count] = word;
-            count += 1;
+        let mut each = ArrayVec::new();
+        for word in line.split_whitespace().take(MOST) {
+            each.push(word);
         }
-        Words { each, count }
+        Words { each }
     }
 
-    pub fn len(&self) -> usize
-        ensures { result ≡ length (words_of self.now) }
+    pub fn is_empty(&self) -> bool
+        ensures { result ≡ (length (words_of self.now) == 0) }
     {
-        self.count
+        self.each.is_empty()
     }
 
     /// The word at a place counted from 0, or an empty text.
     pub fn at(&self, place: usize) -> &'a str
         ensures { result.now ≡ slice_index_or (words_of self.now) place [] }
     {
-        if place < self.count {
-            self.each[place]
-        } else {
-            ""
-        }
+        self.each.get(place).copied().unwrap_or_default()
     }
 
     /// Refuses a line that has another number of words.
     pub fn expect(&self, needed: usize) -> Result<(), Cause>
         ensures { MatchResult result (λ _. length (words_of self.now) ≡ needed) (λ e. (length (words_of self.now) ≢ needed) × (e ≡ cause.WordCount needed)) }
     {
-        if self.len() != needed {
+        if self.each.len() != needed {
             return Err(Cause::WordCount { needed });
         }
         Ok(())

@@ -7,7 +7,7 @@ use Rattle.std.proofs.Common.{◌∙◌}
 pub loop-t-init : goal.loop-t-init
 loop-t-init c =
     let opened = c.in_ok-book.ensures in
-    (opened.tariff_is, opened_sixteen _ _ _ c.requires.kinds c.requires.counts opened.stations)
+    (opened.tariff_is, opened_sixteen _ _ _ c.args.full.now.wind c.args.full.now.full opened.stations)
 
 pub loop-t-preserved : goal.loop-t-preserved
 loop-t-preserved c = (

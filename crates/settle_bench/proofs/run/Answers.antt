@@ -10,16 +10,11 @@ use Rattle.std.proofs.Common.{◌≡◌, length, vec_items, sym, ap, ◌∙◌, 
 
 pub last_book-requires : goal.last_book-requires
 last_book-requires c =
-    let opening = c.in_ok-opening.ensures in
     let accounts = vec_items c.in_ok-pages.pages.accounts in
     let many : length c.args.day.now.installed.now ≡ 512 = omega arith in
-    record {
-      kinds = opening.0;
-      counts = opening.1;
-      accounts = sym (length-map accounts (λ a. a.installed)) ∙ ap (λ (s : Sheet). length s.installed) c.in_ok-pages.ensures ∙ many;
-    }
+    sym (length-map accounts (λ a. a.installed)) ∙ ap (λ (s : Sheet). length s.installed) c.in_ok-pages.ensures ∙ many
 
-pub returns-in-Ok : goal.returns-in-Ok
-returns-in-Ok c settled = all_settled (sheet_of c.args.day.now) (state c.in_ok-book.book c.last_book.new.pages) _ _
+pub returns : goal.returns
+returns c settled = all_settled (sheet_of c.args.day.now) (state c.in_ok-book.book c.last_book.new.pages) _ _
     (subst (λ (s : Sheet). DoneTo 16 s (state c.in_ok-book.book c.last_book.new.pages)) c.in_ok-pages.ensures (c.in_ok-book.ensures.done settled))
-    c.in-Ok.ensures
+    c.in_ok-report.ensures

@@ -8,15 +8,15 @@ use units::limits::{GENERATOR_KW, LEAST_INSTALLED, MOST_INSTALLED};
 
 impl Generator {
     /// A number beyond its range is taken as the nearest one allowed.
-    pub fn new(installed: u32, capacity: u32, actual: u32) -> Generator
-        ensures { result.load ≡ nearest_load installed capacity actual }
+    pub fn new(load: Load) -> Generator
+        ensures { result.load ≡ nearest_load load.installed load.capacity load.actual }
     {
-        let power = installed.clamp(LEAST_INSTALLED, MOST_INSTALLED);
+        let installed = load.installed.clamp(LEAST_INSTALLED, MOST_INSTALLED);
         Generator {
             load: Load {
-                actual: actual.min(GENERATOR_KW),
-                capacity: capacity.min(power),
-                installed: power,
+                actual: load.actual.min(GENERATOR_KW),
+                capacity: load.capacity.min(installed),
+                installed,
             },
         }
     }
@@ -25,5 +25,14 @@ impl Generator {
         ensures { result ≡ self.now.load }
     {
         self.load
+    }
+}
+
+/// The generator nearest to one with no power at all.
+impl Default for Generator {
+    ghost is_default = { λ g. g.load ≡ nearest_load 0 0 0 };
+
+    fn default() -> Generator {
+        Generator::new(Load::default())
     }
 }

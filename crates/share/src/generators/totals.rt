@@ -1,5 +1,5 @@
 //! A station's generators taken together.
-ghost use Rattle.std.specs.Prelude.{◌≡◌, ◌<◌, ◌≤◌, length, MatchOption};
+ghost use Rattle.std.specs.Prelude.{◌≡◌, MatchOption};
 ghost use Rattle.share.specs.Keys.{totals};
 ghost use Rattle.share.specs.Loads.{Few, loads};
 
@@ -7,25 +7,6 @@ use crate::generator::Generator;
 use crate::generators::Generators;
 use crate::load::Load;
 use units::limits::GENERATORS;
-
-/// The sums over at most 32 generators.
-fn sum_of(each: &[Generator]) -> Load
-    requires { length each.now ≤ 32 }
-    ensures { result ≡ totals (loads each.now) }
-{
-    let mut sums = Load {
-        actual: 0,
-        capacity: 0,
-        installed: 0,
-    };
-    for generator in each {
-        let own = generator.load();
-        sums.actual += own.actual;
-        sums.capacity += own.capacity;
-        sums.installed += own.installed;
-    }
-    sums
-}
 
 impl<'a> Generators<'a> {
     /// A station's generators, if there are 1 to 32 of them.
@@ -48,6 +29,13 @@ impl<'a> Generators<'a> {
     pub fn load(&self) -> Load
         ensures { result ≡ totals (loads self.now.each.now) }
     {
-        sum_of(self.each)
+        let mut sums = Load::default();
+        for generator in self.each {
+            let own = generator.load();
+            sums.actual += own.actual;
+            sums.capacity += own.capacity;
+            sums.installed += own.installed;
+        }
+        sums
     }
 }

@@ -9,6 +9,7 @@ use crate::generators::Generators;
 use crate::key::Key;
 use crate::load::Load;
 use crate::weights::Weights;
+use arrayvec::ArrayVec;
 
 /// The weight that a key gives one generator.
 fn weight_of<K: Key>(key: &K, generator: &Generator, station: &Load) -> u32
@@ -22,19 +23,14 @@ impl Weights {
     pub fn of<K: Key>(key: &K, generators: &Generators) -> Weights
         ensures { held result ≡ weights K.Key.weighs (loads generators.now.each.now) }
     {
-        let all = generators.each();
         let station = generators.load();
-        let mut each = [0; 32];
+        let mut each = ArrayVec::new();
         let mut total = 0;
-        for (i, generator) in all.iter().enumerate() {
+        for generator in generators.each() {
             let weight = weight_of(key, generator, &station);
-            each[i] = weight;
+            each.push(weight);
             total += weight;
         }
-        Weights {
-            each,
-            count: all.len(),
-            total,
-        }
+        Weights { each, total }
     }
 }

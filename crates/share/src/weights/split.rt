@@ -1,38 +1,67 @@
 //! An amount split over weights.
-ghost use Rattle.std.specs.Prelude.{◌≡◌, ℕ, pos, slice_index_or};
+ghost use Rattle.std.specs.Prelude.{◌≡◌, ◌≤◌, length};
+ghost use Rattle.share.specs.Amounts.{energies, moneys};
 ghost use Rattle.share.specs.Held.{held};
 ghost use Rattle.share.specs.Keys.{weights};
 ghost use Rattle.share.specs.Loads.{loads};
 ghost use Rattle.share.specs.Shares.{Fair, shares};
 
+use crate::amounts::Amounts;
 use crate::generators::Generators;
 use crate::key::Key;
 use crate::magnitude::signed;
 use crate::portion::Portion;
 use crate::weights::Weights;
+use arrayvec::ArrayVec;
+use units::limits::GENERATORS;
 
 impl Weights {
-    /// The share of each weight, in their order, and zero past the last.
+    /// The share of each weight, in their order.
     /// The first shares together are the part of the amount that the first weights make of all,
     /// its magnitude rounded down.
-    pub fn split(&self, amount: i64) -> [i64; 32]
-        ensures shares { (k : ℕ) → slice_index_or result k (pos 0) ≡ slice_index_or (shares amount (held self.now)) k (pos 0) }
+    pub fn split(&self, amount: i64) -> ArrayVec<i64, GENERATORS>
+        ensures shares { result.items ≡ shares amount (held self.now) }
         ensures fair { Fair amount (held self.now) }
     {
         let mut portion = Portion::none(amount.unsigned_abs(), self.total);
-        let mut shares = [0; 32];
-        for i in 0..self.count {
-            let next = portion.grown(self.each[i]);
-            shares[i] = signed(amount, next.part - portion.part);
+        let mut shares = ArrayVec::new();
+        for &weight in self.each.as_slice() {
+            let next = portion.grown(weight);
+            shares.push(signed(amount, next.part - portion.part));
             portion = next;
         }
         shares
     }
+
+    /// Each weight's share of the money with its share of the energy, in their order.
+    pub fn split_amounts(&self, amounts: Amounts) -> ArrayVec<Amounts, GENERATORS>
+        ensures money { moneys result.items ≡ shares amounts.money (held self.now) }
+        ensures energy { energies result.items ≡ shares amounts.energy (held self.now) }
+        ensures fair { Fair amounts.money (held self.now) × Fair amounts.energy (held self.now) }
+    {
+        let money = self.split(amounts.money);
+        let energy = self.split(amounts.energy);
+        paired(&money, &energy)
+    }
+}
+
+/// Each share of money with that of energy.
+fn paired(money: &[i64], energy: &[i64]) -> ArrayVec<Amounts, GENERATORS>
+    requires same { length money.now ≡ length energy.now }
+    requires few { length money.now ≤ 32 }
+    ensures money { moneys result.items ≡ money.now }
+    ensures energy { energies result.items ≡ energy.now }
+{
+    let mut each = ArrayVec::new();
+    for (&money, &energy) in money.iter().zip(energy) {
+        each.push(Amounts { money, energy });
+    }
+    each
 }
 
 /// An amount split among a station's generators by any key: whatever the key, the shares are fair.
-pub fn split_by<K: Key>(key: &K, generators: &Generators, amount: i64) -> [i64; 32]
-    ensures shares { (k : ℕ) → slice_index_or result k (pos 0) ≡ slice_index_or (shares amount (weights K.Key.weighs (loads generators.now.each.now))) k (pos 0) }
+pub fn split_by<K: Key>(key: &K, generators: &Generators, amount: i64) -> ArrayVec<i64, GENERATORS>
+    ensures shares { result.items ≡ shares amount (weights K.Key.weighs (loads generators.now.each.now)) }
     ensures fair { Fair amount (weights K.Key.weighs (loads generators.now.each.now)) }
 {
     Weights::of(key, generators).split(amount)

@@ -1,48 +1,46 @@
 //! Writes statements.
-ghost use Rattle.std.specs.Prelude.{◌≡◌, ◌+◌, ◌^◌, ◌≤◌};
-ghost use Rattle.spell.specs.Pages.{Lays, wrote};
+ghost use Rattle.std.specs.Prelude.{◌≡◌};
+ghost use Rattle.spell.specs.Pages.{HasRoom, Writes, wrote};
 ghost use Rattle.spell.specs.Statements.{station_text, generator_text, stating};
 
 use super::{STATEMENT_PAGE, Statement};
 use crate::figures::{GeneratorLine, StationLine};
 use crate::words::Word;
-use crate::writers::fed_line;
+use crate::writer::Writer;
 use units::fault::Fault;
 
-fn station_line(page: &mut [u8], at: usize, s: &StationLine) -> usize
-    requires { at + 119 ≤ 2 ^ 32 }
-    ensures text { Lays (station_text s.now) at page.old page.new result }
-    ensures bound { result ≤ at + 119 }
-{
-    fed_line(
-        page,
-        at,
-        b"station",
-        &[
-            Word::Number(&s.station),
-            Word::Number(&s.code),
-            Word::Amount(&s.charges),
-            Word::Amount(&s.due),
-            Word::Number(&s.cash),
-        ],
-    )
+impl StationLine {
+    fn write(&self, writer: &mut Writer)
+        requires { HasRoom 119 writer.old }
+        ensures { Writes (station_text self.now) 119 writer.old writer.new }
+    {
+        writer.fed_line(
+            b"station",
+            &[
+                Word::Number(&self.station),
+                Word::Number(&self.code),
+                Word::Amount(&self.charges),
+                Word::Amount(&self.due),
+                Word::Number(&self.cash),
+            ],
+        );
+    }
 }
 
-fn generator_line(page: &mut [u8], at: usize, g: &GeneratorLine) -> usize
-    requires { at + 80 ≤ 2 ^ 32 }
-    ensures text { Lays (generator_text g.now) at page.old page.new result }
-    ensures bound { result ≤ at + 80 }
-{
-    fed_line(
-        page,
-        at,
-        b"generator",
-        &[
-            Word::Number(&g.generator),
-            Word::Amount(&g.energy),
-            Word::Amount(&g.money),
-        ],
-    )
+impl GeneratorLine {
+    fn write(&self, writer: &mut Writer)
+        requires { HasRoom 80 writer.old }
+        ensures { Writes (generator_text self.now) 80 writer.old writer.new }
+    {
+        writer.fed_line(
+            b"generator",
+            &[
+                Word::Number(&self.generator),
+                Word::Amount(&self.energy),
+                Word::Amount(&self.money),
+            ],
+        );
+    }
 }
 
 impl Statement<'_> {
@@ -57,10 +55,11 @@ impl Statement<'_> {
                 length: page.len() as u64,
             });
         }
-        let mut at = station_line(page, 0, &self.station);
+        let mut writer = Writer::new(page);
+        self.station.write(&mut writer);
         for g in self.generators {
-            at = generator_line(page, at, g);
+            g.write(&mut writer);
         }
-        Ok(at)
+        Ok(writer.place())
     }
 }

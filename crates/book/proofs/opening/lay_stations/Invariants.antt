@@ -1,11 +1,18 @@
-use Rattle.std.proofs.Common.{◌≡◌, ◌*◌, ◌≤◌, ◌++◌, map, length, drop, None, vec_items, vec_len, vec_capacity}
+-- The stations that are laid, and what is left of the kinds and counts.
+use Rattle.std.proofs.Common.{◌≡◌, ◌+◌, ◌*◌, ◌≤◌, ◌++◌, map, length, None, vec_items, vec_len, vec_capacity}
 use Rattle.book.proofs.opening.lay_stations.Given as goal
 use Rattle.book.specs.Opening.{bad_stations, opened_stations, view_of}
+use Rattle.std.specs.Iterator.Adapters.{zip_first, zip_second}
+use Rattle.std.specs.Slice.Iter.{iter_rest}
 
-abbrev pub invariant-loop-t : goal.invariant-loop-t
-invariant-loop-t l =
-    (bad_stations l.t (drop l.t l.kinds) (drop l.t l.counts) ≡ None)
-    × (map view_of (vec_items l.stations) ++ opened_stations l.first (drop l.t l.kinds) (drop l.t l.counts) ≡ opened_stations 0 l.kinds l.counts)
-    × (l.first ≤ 32 * l.t)
-    × (vec_len l.stations ≡ l.t)
-    × (length l.kinds ≤ vec_capacity l.stations)
+abbrev pub invariant-loop-kind : goal.invariant-loop-kind
+invariant-loop-kind l =
+    let kinds = iter_rest (zip_first l.kind-iterator) in
+    let counts = iter_rest (zip_second l.kind-iterator) in
+    record {
+      laid : map view_of (vec_items l.stations) ++ opened_stations l.first kinds counts ≡ opened_stations 0 l.kinds l.counts;
+      sound : bad_stations kinds counts ≡ None;
+      same : length counts ≡ length kinds;
+      few : l.first + 32 * length kinds ≤ 512;
+      room : vec_len l.stations + length kinds ≤ vec_capacity l.stations;
+    }

@@ -3,4 +3,4 @@ use Rattle.posting.specs.Days.{changed, with_sums}
 use Rattle.std.proofs.Common.{◌≡◌}
 
 abbrev pub invariant-loop-k : goal.invariant-loop-k
-invariant-loop-k l = l.accounts ≡ changed l.members.first l.k (with_sums l.sums.money l.sums.energy) l.initial.accounts
+invariant-loop-k l = l.accounts ≡ changed l.members.first l.k (with_sums l.sums) l.initial.accounts

@@ -7,8 +7,8 @@ use Rattle.std.specs.Option.{option_or}
 abbrev pub invariant-blocks-2 : goal.invariant-blocks-2
 invariant-blocks-2 l = (l.missing ≡ None) × (missing_from l.readings l.except l.members l.block (96 - l.block) ≡ first_missing_of l.readings l.except l.members)
 
-abbrev pub invariant-loop-k : goal.invariant-loop-k
-invariant-loop-k l =
+abbrev pub invariant-loop-generator : goal.invariant-loop-generator
+invariant-loop-generator l =
     (l.missing ≡ None)
-    × (option_or (missing_in l.readings l.except l.block (l.members.first + l.k) (l.members.count - l.k)) (missing_from l.readings l.except l.members (l.block + 1) (96 - (l.block + 1)))
+    × (option_or (missing_in l.readings l.except l.block l.generator (l.members.first + l.members.count - l.generator)) (missing_from l.readings l.except l.members (l.block + 1) (96 - (l.block + 1)))
     ≡ first_missing_of l.readings l.except l.members)

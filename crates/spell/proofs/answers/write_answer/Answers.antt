@@ -1,5 +1,6 @@
 use Rattle.std.proofs.Common.{◌^◌, ◌<◌, arith, rules}
 use Rattle.spell.proofs.Answering.{answers_ok, answers_err}
+use Rattle.spell.proofs.Laying.{on_page}
 use Rattle.spell.proofs.Refusing.{short}
 use Rattle.spell.proofs.answers.write_answer.Goals as goal
 
@@ -7,7 +8,7 @@ pub returns-then-page-lt-ANSWER_PAGE : goal.returns-then-page-lt-ANSWER_PAGE
 returns-then-page-lt-ANSWER_PAGE c = short 64 _ _ _ (omega arith)
 
 pub returns-in-Ok : goal.returns-in-Ok
-returns-in-Ok c = answers_ok _ _ c.in-Ok.is (omega arith) c.put_all.ensures
+returns-in-Ok c = answers_ok _ _ c.in-Ok.is (omega arith) (on_page c.write.ensures c.new-writer.ensures.at c.new-writer.ensures.page (search rules) c.place.ensures)
 
 pub returns-in-Err : goal.returns-in-Err
 returns-in-Err c =

@@ -1,17 +1,13 @@
-use Rattle.std.proofs.Common.{◌<◌, arith, rules}
-use Rattle.book.proofs.Owners.{owner_at}
+use Rattle.std.proofs.Common.{subst, sym}
+use Rattle.book.proofs.Owners.{owner_checked}
 use Rattle.book.proofs.book.Book.find_generator.Goals as goal
-use Rattle.book.specs.Sound.{generators_of}
-
-pub returns-in_err-fit : goal.returns-in_err-fit
-returns-in_err-fit g c = search rules
-
-pub returns-then-generator-self : goal.returns-then-generator-self
-returns-then-generator-self g c = search rules
+use Rattle.book.specs.Refusals.{Checks}
+use Rattle.book.specs.States.{generator_presence, Owner, state}
 
 pub returns : goal.returns
 returns g c =
     let b = c.args.self.now in
-    let there : c.args.generator < generators_of b.stations.items = omega (arith, b.all) in
-    let at = owner_at c.args.generator b.stations.items c.owner.result b.laid there c.owner.ensures in
-    (search rules, record { fit = c.in_ok-fit.ensures.1; there = there; within = at.0; low = at.1; high = at.2; is = c.owner.ensures })
+    let s = state b c.args.pages.now in
+    let fit = c.in_ok-fit.ensures in
+    subst (Checks (generator_presence c.args.generator s) (Owner c.args.generator s)) (sym c.ok_or.ensures.value)
+    (owner_checked c.args.generator s c.owner.result fit.0 fit.1 b.laid c.owner.ensures)

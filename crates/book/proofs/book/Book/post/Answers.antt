@@ -5,7 +5,5 @@ use Rattle.std.proofs.Common.{w64, SFits, to_z, of_z, rules}
 
 pub put-requires : goal.put-requires
 put-requires g c =
-    let b = c.args.self.now in
     let fits : SFits w64 c.post-charges.result = search rules in
-    let z = to_z w64 (of_z w64 c.post-charges.result) in
-    settled_back b.stations.items c.args.t b.cash z c.args.station c.settle.new.self (simp to_z-of_z c.post-charges.ensures.light) c.requires c.settle.ensures
+    settled_back c.requires (to_z w64 (of_z w64 c.post-charges.result)) c.settle.new.self (simp to_z-of_z c.post-charges.ensures.light) c.settle.ensures

@@ -15,6 +15,6 @@ returns g c =
     let same : c.progress.result ≡ progress_of old = c.progress.ensures ∙ ap progress_of at.1.is in
     let filed = ap (λ (p : Progress). p.filed) same in
     let slots = ap (λ (p : Progress). p.revisions) same in
-    let days = count_low 96 old.filed.bits (b.in_day c.args.t nobody at.1.within) (omega arith) in
-    let uses = count_low (slots_of old.kind) old.slots.bits (b.in_slots c.args.t nobody at.1.within) (slots_few old.kind) in
+    let days = count_low 96 old.filed.bits (b.in_day c.args.t nobody at.1.stays.within) (omega arith) in
+    let uses = count_low (slots_of old.kind) old.slots.bits (b.in_slots c.args.t nobody at.1.stays.within) (slots_few old.kind) in
     (at.0, (same, omega (arith, filed, days), omega (arith, slots, uses)))

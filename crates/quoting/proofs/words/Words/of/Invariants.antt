@@ -1,12 +1,10 @@
-use Rattle.std.proofs.Common.{◌≡◌, ◌-◌, ◌≤◌, map, length, take}
+use Rattle.std.proofs.Common.{◌≡◌, ◌+◌, map, length}
 use Rattle.quoting.proofs.words.Words.of.Given as goal
 use Rattle.quoting.specs.Words.{Spaced}
+use Rattle.std.specs.Iterator.Adapters.{take_count, take_source}
 use Rattle.std.specs.Str.Iter.{split_whitespace_rest}
 
-abbrev pub invariant-loop-count : goal.invariant-loop-count
-invariant-loop-count l =
-    (l.count ≤ 5) × (length l.each ≡ 5)
-    × Spaced l.line (map (λ x. x.now) (take l.count l.each)) (split_whitespace_rest l.rest)
-
-abbrev pub decreases-loop-count : goal.decreases-loop-count
-decreases-loop-count l = 5 - l.count
+abbrev pub invariant-loop-word : goal.invariant-loop-word
+invariant-loop-word l =
+    (length l.each.items + take_count l.word-iterator ≡ 5)
+    × Spaced l.line (map (λ x. x.now) l.each.items) (split_whitespace_rest (take_source l.word-iterator))

@@ -1,12 +1,9 @@
-use Rattle.std.proofs.Common.{◌≡◌, ◌*◌, ◌≤◌, length, take, sum}
+use Rattle.std.proofs.Common.{◌≡◌, ◌*◌, ◌≤◌, map, take, sum}
 use Rattle.share.proofs.weights.Weights.of.Given as goal
-use Rattle.share.specs.Keys.{weights}
-use Rattle.share.specs.Loads.{loads}
 
-abbrev pub invariant-loop-i : goal.invariant-loop-i
-invariant-loop-i g l =
-    let ws = weights g.K.Key.weighs (loads l.generators.each.now) in
-    (length l.each ≡ 32)
-    × (take l.i l.each ≡ take l.i ws)
-    × (l.total ≡ sum (take l.i ws))
-    × (l.total ≤ 200000 * l.i)
+abbrev pub invariant-loop-generator : goal.invariant-loop-generator
+invariant-loop-generator g l = record {
+  front : l.each.items ≡ map (λ x. g.K.Key.weighs x.load l.station) (take l.generator-index l.generators.each.now);
+  total_is : l.total ≡ sum l.each.items;
+  small : l.total ≤ 200000 * l.generator-index;
+}

@@ -1,4 +1,0 @@
-use Rattle.spell.proofs.writers.+number.Given as goal
-
-abbrev pub decreases-number : goal.decreases-number
-decreases-number l = l.n
