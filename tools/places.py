@@ -49,7 +49,8 @@ def functions(text):
     found = []
     for m in FUNCTION.finditer(text):
         indent = m.group(1)
-        ends = [e for e in (text.find(f"\n{indent}}}", m.start()), text.find(";\n", m.start()) if is_declared(text, m.start()) else -1) if e > 0]
+        ends = [e for e in (text.find(f"\n{indent}}}", m.start()), text.find(f"\n{indent}{{}}", m.start()),
+                            text.find(";\n", m.start()) if is_declared(text, m.start()) else -1) if e > 0]
         whole = text[m.start():min(ends) if ends else len(text)]
         open_body = re.search(rf"(\{{|\n{indent}\{{)\n", whole)
         head = whole[:open_body.start()] if open_body else whole
@@ -129,7 +130,7 @@ def main():
             texts, r"=> (true|false),", r"fn (name|head_of|show_\w+|describe_\w+|refusal)\b", r"(if|else if) \w+ == \"", r"^\s+(money|energy): \w+\.(money|energy|charge|deviation)\b"),
         "5 clauses on three functions or more": repeated_clauses(texts),
         "5 parameters that travel together": travelling(texts),
-        "6 buffers with a length, parallel arrays": matching(texts, r"\[[\w<>' &]+; (5|32|BLOCKS|MOST_GATHERED)\]", r"^\s*(pub )?count: usize,$"),
+        "6 buffers with a length, parallel arrays": matching(texts, r"\[[\w<>' &]+; (5|32|96|BLOCKS|GENERATORS|MOST_GATHERED)\]", r"^\s*(pub )?count: usize,$"),
         "7 switches and tables of functions": matching(texts, r"\b\w+: bool\b", r": fn\("),
     }
     for point, places in points.items():

@@ -1,29 +1,32 @@
 -- A changed station may be put back where it keeps what the book needs.
-use Rattle.std.proofs.Common.{◌≡◌, ℕ, zero, suc, ◌+◌, ◌-◌, ◌*◌, ◌/◌, ◌^◌, ◌<◌, ◌≤◌, true, false, ◌&&◌, leb, List, [], ◌∷◌, length, get_or, ℤ, pos, negsuc, ◌+ℤ◌, nat_abs, ◌≤ℤ◌, Some, None, vec_items, sym, refl, ap, ◌∙◌, subst, ⊎_elim, suc-le-suc, arith}
+use Rattle.std.proofs.Common.{◌≡◌, ℕ, zero, suc, ◌+◌, ◌-◌, ◌*◌, ◌/◌, ◌^◌, ◌<◌, ◌≤◌, true, false, ◌&&◌, leb, List, [], ◌∷◌, length, get_or, ℤ, pos, negsuc, ◌+ℤ◌, nat_abs, ◌≤ℤ◌, Some, None, Option, vec_items, sym, refl, ap, ◌∙◌, subst, ⊎_elim, suc-le-suc, arith, Bor}
+use Rattle.units.specs.Refusals.{Checks}
 use Rattle.book.specs.Sound.{Bounded, Changes, Covered, Light, nets, slots_of}
-use Rattle.book.specs.States.{nobody, StationIs}
-use Rattle.book.specs.Stations.{available, drawn, due_of, filed_on, moved, paid, receivable, revised_in, settled_at, slot_of}
+use Rattle.book.specs.States.{no_station_of, nobody, StationIs}
+use Rattle.book.specs.Stations.{available, drawn, due_of, filed_on, paid, receivable, revised_in, settled_at, slot_of}
 use Rattle.book.specs.declared.book.Book.{Book}
-use Rattle.book.specs.declared.station.Action.{Action}
 use Rattle.book.specs.declared.station.Station.{Station}
 use Rattle.share.specs.declared.key.Key as key
 use Rattle.std.proofs.lemmas.List.{get_or_default}
 use Rattle.std.proofs.lemmas.Int.{ints}
 use Rattle.std.specs.List.{All}
+use Rattle.std.specs.Option.{ok_or, option_copied}
+use Rattle.std.specs.Slice.{IsItemAt}
+use Rattle.units.specs.declared.fault.Fault.TheVariants.{NoSuchNumber}
 use Rattle.tariff.specs.declared.tariff.Tariff as tariff
 use Rattle.units.proofs.Sets.{with_span_low}
-use Rattle.std.proofs.lemmas.Bool.{and_parts, cases_Bool, cond-false, cond-true, leb-true}
+use Rattle.std.proofs.lemmas.Bool.{and_parts, cases_Bool, cond-false, cond-true, le-leb, leb-true, lt-leb}
 use Rattle.units.specs.declared.station.Kind.{Kind}
 use Rattle.units.specs.declared.station.Kind.TheVariants.{Wind, Solar}
 
--- a slot in which notice may be given is one of the day's
-pub slot_low : (k : Kind) (n slot : ℕ) → slot_of k n ≡ Some slot → slot < slots_of k
-slot_low Wind n slot e = ⊎_elim
-    (λ (t : leb n 92 ≡ true). let s : Some (n / 6) ≡ Some slot = sym (cond-true (leb n 92) (Some (n / 6)) None t) ∙ e in let q : n / 6 ≡ slot = cc in omega (arith, leb-true n 92 t, q))
+-- a notice may be given up to block 92, and its slot is one of the day's
+pub notice_bounds : (k : Kind) (n slot : ℕ) → slot_of k n ≡ Some slot → (n ≤ 92) × (slot < slots_of k)
+notice_bounds Wind n slot e = ⊎_elim
+    (λ (t : leb n 92 ≡ true). let s : Some (n / 6) ≡ Some slot = sym (cond-true (leb n 92) (Some (n / 6)) None t) ∙ e in let q : n / 6 ≡ slot = cc in let h = leb-true n 92 t in (h, omega (arith, h, q)))
     (λ (t : leb n 92 ≡ false). let s : None ≡ Some slot = sym (cond-false (leb n 92) (Some (n / 6)) None t) ∙ e in let z : ◌≡◌ {A = ℕ} 0 1 = cc in absurd (omega arith))
     (cases_Bool (leb n 92))
-slot_low Solar n slot e = ⊎_elim
-    (λ (t : (leb 22 n && leb n 75) ≡ true). let s : Some ((n - 22) / 6) ≡ Some slot = sym (cond-true (leb 22 n && leb n 75) (Some ((n - 22) / 6)) None t) ∙ e in let q : (n - 22) / 6 ≡ slot = cc in let h = leb-true n 75 (and_parts (leb 22 n) (leb n 75) t).1 in omega (arith, h, q))
+notice_bounds Solar n slot e = ⊎_elim
+    (λ (t : (leb 22 n && leb n 75) ≡ true). let s : Some ((n - 22) / 6) ≡ Some slot = sym (cond-true (leb 22 n && leb n 75) (Some ((n - 22) / 6)) None t) ∙ e in let q : (n - 22) / 6 ≡ slot = cc in let h = leb-true n 75 (and_parts (leb 22 n) (leb n 75) t).1 in (omega (arith, h), omega (arith, h, q)))
     (λ (t : (leb 22 n && leb n 75) ≡ false). let s : None ≡ Some slot = sym (cond-false (leb 22 n && leb n 75) (Some ((n - 22) / 6)) None t) ∙ e in let z : ◌≡◌ {A = ℕ} 0 1 = cc in absurd (omega arith))
     (cases_Bool (leb 22 n && leb n 75))
 
@@ -51,7 +54,7 @@ bounded_at ss t cash h few low even light covered =
     record { light = l; near = omega (arith, ints, c, n, even) }
 
 -- the station t of a book is bounded, and may stay as it is
-pub in_book : {T K : Type 0} {rules : tariff.Ghosts T} {weights : key.Ghosts K} (b : Book T K rules weights) (t : ℕ) (x : Station) → t < length (vec_items b.stations) → x ≡ get_or (vec_items b.stations) t nobody
+in_book : {T K : Type 0} {rules : tariff.Ghosts T} {weights : key.Ghosts K} (b : Book T K rules weights) (t : ℕ) (x : Station) → t < length (vec_items b.stations) → x ≡ get_or (vec_items b.stations) t nobody
     → StationIs (vec_items b.stations) b.cash t x
 in_book b t x within is =
     let ss = vec_items b.stations in
@@ -74,18 +77,6 @@ in_book b t x within is =
 
 -- what x may become, where it may stay as it is
 module _ {ss : List Station} {t cash : ℕ} {x : Station} (h : Changes ss t cash x cash) where
-  pub moved_back : (a : Action) (s : Station) → s ≡ moved a x → Changes ss t cash s cash
-  moved_back a s e = subst (λ (y : Station). Changes ss t cash y cash) (sym e) (record {
-    within = h.within;
-    placed = h.placed;
-    light = h.light;
-    covered = h.covered;
-    in_day = h.in_day;
-    in_slots = h.in_slots;
-    low = h.low;
-    even = h.even;
-  })
-
   pub filed_back : (from to : ℕ) (s : Station) → to < 96 → s ≡ filed_on from to x → Changes ss t cash s cash
   filed_back from to s last e = subst (λ (y : Station). Changes ss t cash y cash) (sym e) (record {
     within = h.within;
@@ -105,7 +96,7 @@ module _ {ss : List Station} {t cash : ℕ} {x : Station} (h : Changes ss t cash
     light = h.light;
     covered = h.covered;
     in_day = h.in_day;
-    in_slots = with_span_low (slots_of x.kind) x.slots.bits slot slot h.in_slots (slot_low x.kind n slot noticed);
+    in_slots = with_span_low (slots_of x.kind) x.slots.bits slot slot h.in_slots (notice_bounds x.kind n slot noticed).1;
     low = h.low;
     even = h.even;
   })
@@ -155,13 +146,8 @@ pub slots_few : (k : Kind) → slots_of k ≤ 128
 slots_few Wind = omega arith
 slots_few Solar = omega arith
 
--- a notice may be given up to block 92
-pub notice_low : (k : Kind) (n slot : ℕ) → slot_of k n ≡ Some slot → n ≤ 92
-notice_low Wind n slot e = ⊎_elim
-    (λ (t : leb n 92 ≡ true). leb-true n 92 t)
-    (λ (t : leb n 92 ≡ false). let s : None ≡ Some slot = sym (cond-false (leb n 92) (Some (n / 6)) None t) ∙ e in let z : ◌≡◌ {A = ℕ} 0 1 = cc in absurd (omega arith))
-    (cases_Bool (leb n 92))
-notice_low Solar n slot e = ⊎_elim
-    (λ (t : (leb 22 n && leb n 75) ≡ true). omega (arith, leb-true n 75 (and_parts (leb 22 n) (leb n 75) t).1))
-    (λ (t : (leb 22 n && leb n 75) ≡ false). let s : None ≡ Some slot = sym (cond-false (leb 22 n && leb n 75) (Some ((n - 22) / 6)) None t) ∙ e in let z : ◌≡◌ {A = ℕ} 0 1 = cc in absurd (omega arith))
-    (cases_Bool (leb 22 n && leb n 75))
+-- a look-up of station t
+pub station_checked : {T K : Type 0} {rules : tariff.Ghosts T} {weights : key.Ghosts K} (b : Book T K rules weights) (t : ℕ) (r : Option (Bor Station)) → IsItemAt (vec_items b.stations) t r
+    → Checks (no_station_of (vec_items b.stations) t) (StationIs (vec_items b.stations) b.cash t) (ok_or (option_copied r) (NoSuchNumber t))
+station_checked b t None at = cond-true _ (Some (NoSuchNumber t)) None (le-leb _ _ at.3)
+station_checked b t (Some x) at = (cond-false _ (Some (NoSuchNumber t)) None (lt-leb _ _ at.3.0), in_book b t x.now at.3.0 (at.4 (omega arith) nobody))

@@ -4,13 +4,13 @@ use Rattle.book.specs.Calls.{first_revised, posted, revising, unless}
 use Rattle.book.specs.Causes.{bad_notice, high_values, used_slot, value_count, wrong_number}
 use Rattle.book.specs.Lists.{spliced}
 use Rattle.book.specs.Promises.{Apart, FromTheFourthBlock, NobodyElsesAccount, OneRevisionASlot, Taken}
-use Rattle.book.specs.Refusals.{first, when}
+use Rattle.units.specs.Refusals.{first, when}
 use Rattle.book.specs.States.{State, admission, nobody, no_station, owner_of, presence, sheet_at, short_page, short_pages, station_at}
 use Rattle.book.specs.Stations.{moved, slot_of}
 use Rattle.book.specs.declared.station.Action.{Action}
 use Rattle.book.specs.declared.station.Action.TheVariants.{Correct, Revise, Settle}
 use Rattle.book.specs.declared.station.Station.{Station}
-use Rattle.book.proofs.Changes.{notice_low}
+use Rattle.book.proofs.Changes.{notice_bounds}
 use Rattle.posting.proofs.Accounts.{changed_at}
 use Rattle.posting.specs.Days.{account_after, among, no_account}
 use Rattle.posting.specs.declared.account.Account.{Account}
@@ -104,7 +104,7 @@ pub from_the_fourth_block : FromTheFourthBlock
 from_the_fourth_block t k n vs s h =
     let p = passed t k n vs s h in
     let at = p.1 in
-    let low = notice_low (station_at s t).kind n p.0 at.slotted in
+    let low = (notice_bounds (station_at s t).kind n p.0 at.slotted).0 in
     let after = ap (λ (z : State). z.schedules) (left _ s _ (taken_none _ s _ h)) in
     let i = 96 * t + first_revised n in
     let room : i ≤ length s.schedules = omega (arith, at.page, at.within, low) in

@@ -1,6 +1,5 @@
 mod Changes
 mod Kept
-mod Missing
 mod OpeningChecks
 mod OpeningPages
 mod OpeningStations

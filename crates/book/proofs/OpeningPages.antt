@@ -8,7 +8,7 @@ use Rattle.std.proofs.lemmas.List.{append_assoc, drop_at, drop-drop, drop_more, 
 use Rattle.std.specs.List.{flat_map}
 
 -- the values ws behind the values vs
-pub spliced_twice : {X : Type 0} (vs ws p : List X) (n : ℕ) → n ≡ length vs → spliced n ws (spliced 0 vs p) ≡ spliced 0 (vs ++ ws) p
+spliced_twice : {X : Type 0} (vs ws p : List X) (n : ℕ) → n ≡ length vs → spliced n ws (spliced 0 vs p) ≡ spliced 0 (vs ++ ws) p
 spliced_twice vs ws p n e =
     let rest = drop (0 + length vs) p in
     let front : take n (vs ++ rest) ≡ vs = take_at vs rest n (sym e) in
@@ -25,7 +25,7 @@ length_days [] = refl
 length_days (kw ∷ kws) = omega (arith, length-append (replicate 96 kw) (flat_map all_day kws), length-replicate 96 kw, length_days kws)
 
 -- one more value behind the values vs
-pub spliced_set : {X : Type 0} (vs p : List X) (y : X) (n : ℕ) → n ≡ length vs → n < length p → set (spliced 0 vs p) n y ≡ spliced 0 (vs ++ y ∷ []) p
+spliced_set : {X : Type 0} (vs p : List X) (y : X) (n : ℕ) → n ≡ length vs → n < length p → set (spliced 0 vs p) n y ≡ spliced 0 (vs ++ y ∷ []) p
 spliced_set vs p y n e h =
     let at : 0 + length vs ≡ n = omega arith in
     let rest : drop (0 + length vs) p ≡ get_or p n y ∷ drop (n + 1) p = ap (λ k. drop k p) at ∙ drop_more p n y h in

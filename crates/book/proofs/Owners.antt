@@ -1,14 +1,15 @@
 -- The station of a generator.
 use Rattle.std.proofs.Common.{◌≡◌, ℕ, zero, suc, ◌+◌, ◌<◌, ◌≤◌, false, List, [], ◌∷◌, length, get_or, take, Some, None, Option, sym, ap, ◌∙◌, add-one, arith}
 use Rattle.book.proofs.Places.{end_at, end_within}
-use Rattle.book.proofs.Positions.{nowhere, somewhere}
-use Rattle.book.specs.Refusals.{Checks, first}
+use Rattle.book.proofs.Positions.{nowhere}
+use Rattle.units.specs.Refusals.{Checks, first}
 use Rattle.book.specs.Sound.{generators_of, Laid}
 use Rattle.book.specs.States.{Fit, generator_presence, no_generator, nobody, Owner, reaches, short_pages, State}
 use Rattle.book.specs.declared.station.Station.{Station}
 use Rattle.std.proofs.lemmas.Bool.{cond-false, cond-true, le-leb, lt-leb, ltb-false, ltb-true}
 use Rattle.std.proofs.lemmas.List.{take_all}
 use Rattle.std.proofs.lemmas.List.Quantifiers.{position-Some}
+use Rattle.std.proofs.lemmas.List.Sums.{position_or_len_is}
 use Rattle.std.specs.List.{position}
 use Rattle.std.specs.Option.{ok_or}
 use Rattle.units.specs.declared.fault.Fault.TheVariants.{NoSuchNumber}
@@ -40,7 +41,7 @@ owner_some g s t fit laid e =
       within = at.0;
       low = low t at.0 at.2;
       high = high;
-      is = somewhere (reaches g) ss t e;
+      is = sym (position_or_len_is (reaches g) ss t nobody (omega (arith, at.0)) at.2 (λ l. at.1));
     }
   where
     low : (t : ℕ) → t < length s.stations → ((k : ℕ) → k < t → reaches g (get_or s.stations k nobody) ≡ false) → (get_or s.stations t nobody).members.first ≤ g

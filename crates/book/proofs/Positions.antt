@@ -14,15 +14,6 @@ module _ {X : Type 0} (p : X → Bool) (xs : List X) where
       (λ (l : length xs ≤ position_or_len p xs). fails_before_first p xs k d (omega arith))
       (cases_lt (position_or_len p xs) (length xs))
 
-  pub somewhere : (i : ℕ) → position p xs ≡ Some i → i ≡ position_or_len p xs
-  somewhere i e = ⊎_elim
-      (λ (l : position_or_len p xs < length xs).
-      let some : Some (position_or_len p xs) ≡ Some i = sym (cond-true _ _ _ (lt-ltb _ _ l)) ∙ e in cc)
-      (λ (l : length xs ≤ position_or_len p xs).
-      let none : None ≡ Some i = sym (cond-false _ _ _ (le-ltb _ _ l)) ∙ e in
-      let z : ◌≡◌ {A = ℕ} 0 1 = cc in absurd (omega arith))
-      (cases_lt (position_or_len p xs) (length xs))
-
   -- a search that has passed the elements before i
   pub first_at : (i : ℕ) (d : X) → i < length xs → ((k : ℕ) → k < i → p (get_or xs k d) ≡ false) → p (get_or xs i d) ≡ true → position p xs ≡ Some i
   first_at i d h before here =

@@ -3,7 +3,7 @@ use Rattle.std.proofs.Common.{◌≡◌, ℕ, [], ◌∷◌, List, ℤ, None, Op
 use Rattle.book.specs.Calls.{missing_reading}
 use Rattle.book.specs.Causes.{bad_blocks}
 use Rattle.book.specs.Questions.{share_refusal}
-use Rattle.book.specs.Refusals.{first}
+use Rattle.units.specs.Refusals.{first}
 use Rattle.book.specs.States.{State, generator_admission, owner_of, station_at}
 use Rattle.book.specs.declared.station.Action.TheVariants.{Ask}
 use Rattle.posting.specs.Days.{posted_accounts, share_at, standing_charges}

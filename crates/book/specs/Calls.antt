@@ -3,7 +3,7 @@
 use Rattle.std.specs.Prelude.{◌≡◌, ℕ, ◌+◌, ◌-◌, ◌*◌, ◌^◌, List, [], ◌∷◌, replicate, ℤ, Some, None, Ok, Err, Option, Result, nat_lt, slice_set}
 use Rattle.book.specs.Causes.{bad_amount, bad_blocks, high_value, revision_causes}
 use Rattle.book.specs.Lists.{installed_power_at, spliced}
-use Rattle.book.specs.Refusals.{first, when}
+use Rattle.units.specs.Refusals.{first, when}
 use Rattle.book.specs.States.{State, admission, generator_admission, owner_of, presence, sheet_at, state, station_at}
 use Rattle.book.specs.Stations.{available, drawn, filed_on, moved, paid, revised_in, settled_at, slot_of}
 use Rattle.book.specs.declared.book.Book.{Book}

@@ -1,6 +1,6 @@
 -- The causes for which a call's own numbers refuse it.
 use Rattle.std.specs.Prelude.{ℕ, ◌+◌, ◌-◌, ◌^◌, not, ◌||◌, List, [], ◌∷◌, length, Some, None, Option, ◌==◌, nat_le, nat_lt, position}
-use Rattle.book.specs.Refusals.{when}
+use Rattle.units.specs.Refusals.{when}
 use Rattle.book.specs.Stations.{slot_of}
 use Rattle.book.specs.declared.station.Station.{Station}
 use Rattle.std.specs.Option.{option_map, unwrap_or}

@@ -4,7 +4,6 @@ pub mod Lists
 pub mod Opening
 pub mod Promises
 pub mod Questions
-pub mod Refusals
 pub mod Runs
 pub mod Sheets
 pub mod Sound

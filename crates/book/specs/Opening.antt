@@ -1,7 +1,7 @@
 -- What opens a book: the causes that refuse it, and the stations and pages as the day begins.
 use Rattle.std.specs.Prelude.{◌≡◌, ℕ, ◌+◌, ◌*◌, ◌<◌, ◌≤◌, Bool, cond, not, ◌&&◌, ◌||◌, ◌⊎◌, List, [], ◌∷◌, map, length, replicate, sum, zip, position, ℤ, pos, Some, None, vec_items, Option, Result, MatchResult, ◌==◌, nat_le, nat_lt, slice_index}
 use Rattle.book.specs.Lists.{spliced}
-use Rattle.book.specs.Refusals.{first, when}
+use Rattle.units.specs.Refusals.{first, when}
 use Rattle.book.specs.States.{Room, lengths_in, short_for}
 use Rattle.book.specs.declared.book.Book.{Book}
 use Rattle.book.specs.declared.pages.Pages.{Pages}

@@ -2,7 +2,7 @@
 use Rattle.std.specs.Prelude.{◌≡◌, ℕ, ◌-◌, [], ◌∷◌, take, drop, ℤ, None, Option, slice_index_or}
 use Rattle.book.specs.Calls.{missing_reading}
 use Rattle.book.specs.Causes.{bad_blocks}
-use Rattle.book.specs.Refusals.{first}
+use Rattle.units.specs.Refusals.{first}
 use Rattle.book.specs.States.{State, admission, generator_admission, owner_of, sheet_at, station_at}
 use Rattle.book.specs.Stations.{due_of}
 use Rattle.book.specs.declared.answers.Progress.{Progress}

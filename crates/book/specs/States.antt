@@ -1,6 +1,6 @@
 -- The book and the pages lent with it, and what every call tests first.
 use Rattle.std.specs.Prelude.{◌≡◌, ℕ, ◌+◌, ◌*◌, ◌<◌, ◌≤◌, Bool, not, List, [], ◌∷◌, length, is_some, vec_items, Option, nat_le, nat_lt, slice_index_or}
-use Rattle.book.specs.Refusals.{first, when}
+use Rattle.units.specs.Refusals.{first, when}
 use Rattle.book.specs.Sound.{Bounded, Changes, generators_of}
 use Rattle.book.specs.Stations.{fresh, moved, moves}
 use Rattle.book.specs.declared.book.Book.{Book}

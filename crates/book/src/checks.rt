@@ -2,13 +2,12 @@
 ghost use Rattle.std.specs.Prelude.{◌≡◌, ◌<◌, ◌≤◌, [], ◌∷◌, length, None};
 ghost use Rattle.book.specs.Calls.{missing_reading};
 ghost use Rattle.book.specs.Causes.{bad_amount, bad_blocks, high_value, high_values, value_count};
-ghost use Rattle.book.specs.Refusals.{Checks, first};
+ghost use Rattle.units.specs.Refusals.{Checks, first};
 ghost use Rattle.posting.specs.Missing.{first_missing_of, missing_in};
 
 use arrayvec::ArrayVec;
 use posting::members::Members;
-use posting::missing::first_missing;
-use posting::pages::entry_or;
+use posting::missing::{first_missing, missing_in_block};
 use posting::place::Place;
 use units::fault::Fault;
 use units::limits::BLOCKS;
@@ -51,7 +50,7 @@ const AMOUNT_LIMIT: u64 = 1_000_000_000_000;
 pub fn sound_amount(t: u64, amount: u64) -> Result<(), Fault>
     ensures { Checks (bad_amount t amount) (λ _. (0 < amount) × (amount ≤ 1000000000000)) result }
 {
-    if amount == 0 || amount > AMOUNT_LIMIT {
+    if !(1..=AMOUNT_LIMIT).contains(&amount) {
         return Err(Fault::BadAmount { station: t, amount });
     }
     Ok(())
@@ -106,23 +105,10 @@ pub fn complete(
     none_missing(first_missing(readings, members, except))
 }
 
-/// The first of a station's readings that is missing in the block.
-fn missing_in_block(readings: &[Option<u32>], members: Members, block: usize) -> Option<Place>
-    requires { block < 96 }
-    ensures { result ≡ missing_in readings.now None block members.first members.count }
-{
-    for generator in members.first()..members.end() {
-        if entry_or(readings, BLOCKS * generator + block, None).is_none() {
-            return Some(Place { generator, block });
-        }
-    }
-    None
-}
-
 /// The block is one of the day, and no reading of a station is missing in it.
 pub fn block_read(readings: &[Option<u32>], members: Members, block: u64) -> Result<(), Fault>
     ensures { Checks (first (bad_blocks block block ∷ missing_reading (missing_in readings.now None block members.first members.count) ∷ [])) (λ _. block < 96) result }
 {
     in_day(block, block)?;
-    none_missing(missing_in_block(readings, members, block as usize))
+    none_missing(missing_in_block(readings, members, None, block as u8))
 }

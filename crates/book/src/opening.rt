@@ -1,7 +1,7 @@
 //! Checks on an opening, and the stations that it lays.
 ghost use Rattle.std.specs.Prelude.{◌≡◌, ◌<◌, ◌≤◌, map, length, position, zip, MatchResult};
 ghost use Rattle.book.specs.Opening.{bad_installed, bad_stations, generators_in, Installable, installed_count_fault, kind_of, opened_stations, outside, sound_station, Stands, station_count_fault, unsound, view_of, view_opened};
-ghost use Rattle.book.specs.Refusals.{Checks};
+ghost use Rattle.units.specs.Refusals.{Checks};
 ghost use Rattle.posting.specs.Members.{Numbered};
 ghost use Rattle.units.specs.declared.fault.Fault.TheVariants.{NoMemory};
 
@@ -16,7 +16,7 @@ use units::station::Kind;
 pub fn station_count(kinds: usize, counts: usize) -> Result<(), Fault>
     ensures { Checks (station_count_fault kinds counts) (λ _. (0 < kinds) × (kinds ≤ 16) × (counts ≡ kinds)) result }
 {
-    if kinds == 0 || kinds > STATIONS || counts != kinds {
+    if !(1..=STATIONS).contains(&kinds) || counts != kinds {
         return Err(Fault::StationCount {
             kinds: kinds as u64,
             counts: counts as u64,
@@ -29,7 +29,7 @@ pub fn station_count(kinds: usize, counts: usize) -> Result<(), Fault>
 fn is_sound(kind: u64, count: u64) -> bool
     ensures { result ≡ sound_station kind count }
 {
-    Kind::try_from(kind).is_ok() && 1 <= count && count <= GENERATORS as u64
+    Kind::try_from(kind).is_ok() && (1..=GENERATORS as u64).contains(&count)
 }
 
 /// The first station that is not sound.
@@ -80,7 +80,7 @@ pub fn installed_count(given: usize, needed: usize) -> Result<(), Fault>
 fn is_outside(kw: u64) -> bool
     ensures { result ≡ outside kw }
 {
-    kw < u64::from(LEAST_INSTALLED) || kw > u64::from(MOST_INSTALLED)
+    !(u64::from(LEAST_INSTALLED)..=u64::from(MOST_INSTALLED)).contains(&kw)
 }
 
 /// The first such power.
@@ -108,10 +108,7 @@ fn kind_numbered(number: u64) -> Kind
     requires { number ≤ 1 }
     ensures { result ≡ kind_of number }
 {
-    let Ok(kind) = Kind::try_from(number) else {
-        unreachable()
-    };
-    kind
+    Kind::try_from(number).unwrap()
 }
 
 /// A station as its day begins, with `count` generators from number `first` on.
@@ -119,10 +116,7 @@ fn opened_station(first: usize, kind: Kind, count: usize) -> Station
     requires { Numbered first count }
     ensures { view_of result ≡ view_opened first kind count }
 {
-    let Some(members) = Members::of(first, count) else {
-        unreachable()
-    };
-    Station::new(kind, members)
+    Station::new(kind, Members::of(first, count).unwrap())
 }
 
 /// A station for each kind and count; its generators follow those of the stations before.

@@ -1,5 +1,5 @@
 //! The pages that a caller lends with each call.
-ghost use Rattle.std.specs.Prelude.{◌≡◌, ◌*◌, ◌≤◌, IfOk, map, length, unsigned_abs};
+ghost use Rattle.std.specs.Prelude.{◌≡◌, ◌+◌, ◌-◌, ◌*◌, ◌<◌, ◌≤◌, IfOk, map, length, unsigned_abs};
 ghost use Rattle.book.specs.Lists.{installed_power_at, spliced};
 ghost use Rattle.book.specs.Opening.{all_day, Begun, Blank, Installable, opened_account};
 ghost use Rattle.book.specs.States.{lengths_in, Room};
@@ -13,6 +13,7 @@ use posting::members::Members;
 use posting::pages::{Pages as Lent, installed_at};
 use share::key::Key;
 use std::alloc::{AllocError, Global};
+use std::ops::Range;
 use tariff::tariff::Tariff;
 use units::limits::{BLOCKS, LEAST_INSTALLED, MOST_INSTALLED};
 
@@ -46,6 +47,17 @@ pub fn day<'a, T: Tariff, K: Key>(
         members,
         pages,
     }
+}
+
+/// The entries of the blocks `from` to `to` on a page that has 96 for each, for the station or generator with this number.
+pub(crate) fn entries(number: u64, from: u64, to: u64) -> Range<usize>
+    requires number { number < 512 }
+    requires blocks { (from ≤ to) × (to < 96) }
+    ensures start { result.start ≡ 96 * number + from }
+    ensures end { result.end ≡ 96 * number + from + (to - from + 1) }
+{
+    let start = BLOCKS * number as usize + from as usize;
+    start..start + (to - from + 1) as usize
 }
 
 /// Writes each generator's installed power as its capacity in each block.

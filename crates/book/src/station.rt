@@ -2,7 +2,7 @@
 ghost use Rattle.std.specs.Prelude.{◌≡◌, ◌-◌, ◌≤◌, [], ◌∷◌, length};
 ghost use Rattle.book.specs.Causes.{revision_causes, used_slot, wrong_number};
 ghost use Rattle.book.specs.Questions.{progress_of};
-ghost use Rattle.book.specs.Refusals.{Checks, first};
+ghost use Rattle.units.specs.Refusals.{Checks, first};
 ghost use Rattle.book.specs.Sound.{Bounded};
 ghost use Rattle.book.specs.States.{wrong_phase};
 ghost use Rattle.book.specs.Stations.{available, drawn, due_of, filed_on, fresh, moved, moves, paid, revised_in, settled_at, slot_of};
@@ -86,13 +86,11 @@ impl Station {
     pub fn moved(self, t: u64, action: Action) -> Result<Station, Fault>
         ensures { Checks (wrong_phase action t self) (λ x. x ≡ moved action self) result }
     {
-        match self.next_phase(action) {
-            Some(phase) => Ok(Station { phase, ..self }),
-            None => Err(Fault::WrongPhase {
-                station: t,
-                phase: self.phase,
-            }),
-        }
+        let phase = self.next_phase(action).ok_or(Fault::WrongPhase {
+            station: t,
+            phase: self.phase,
+        })?;
+        Ok(Station { phase, ..self })
     }
 
     /// How far the day has come.

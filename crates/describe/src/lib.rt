@@ -107,39 +107,16 @@ impl fmt::Display for Refused<'_> {
             "refused, layer {layer}, number {number}, place ({p}, {q}): "
         )?;
         match self.fault {
-            Fault::LongLine { .. } => write!(f, "the line is over 1024 bytes"),
             Fault::NotForm { start } => {
-                let front = Front {
-                    line: self.line,
-                    bytes: start as usize,
-                };
-                write!(f, "not a form behind `{front}`")
+                // They begin a form, so they are ASCII.
+                let front = self.line.iter().take(start as usize);
+                f.write_str("not a form behind `")?;
+                for byte in front {
+                    f.write_char(char::from(*byte))?;
+                }
+                f.write_char('`')
             }
-            Fault::UnknownHead => write!(f, "no call has this head"),
-            Fault::BadArgument { position } => {
-                write!(
-                    f,
-                    "argument {position} is missing, surplus or of the wrong sort"
-                )
-            }
-            Fault::NoMemory => write!(f, "there is no memory left"),
-            fault => write!(f, "{fault:?}"),
+            fault => write!(f, "{fault}"),
         }
-    }
-}
-
-/// The first bytes of a line. They begin a form, so they are ASCII.
-#[derive(Clone, Copy)]
-struct Front<'a> {
-    line: &'a [u8],
-    bytes: usize,
-}
-
-impl fmt::Display for Front<'_> {
-    fn fmt<W: fmt::Write>(&self, f: &mut fmt::Formatter<W>) -> fmt::Result {
-        for byte in self.line.iter().take(self.bytes) {
-            f.write_char(char::from(*byte))?;
-        }
-        Ok(())
     }
 }

@@ -5,7 +5,7 @@ use Rattle.book.specs.Causes.{bad_notice}
 use Rattle.book.specs.Stations.{slot_of}
 use Rattle.share.specs.Shares.{shares}
 use Rattle.std.specs.Option.{option_map}
-use Rattle.tariff.specs.Bands.{banded, edges_of}
+use Rattle.tariff.specs.Bands.{banded_charge}
 use Rattle.layers.specs.Penalties.{penal}
 use Rattle.tariff.specs.Rates.{single}
 use Rattle.tariff.specs.declared.banded.Banded.TheVariants.{From10, From15}
@@ -20,10 +20,10 @@ asked schedule actual capacity =
     record { station = 2; block = 7; schedule = schedule; actual = actual; capacity = capacity }
 
 abbrev pub from10 : Query → ℤ
-from10 q = pos (banded (edges_of From10) q)
+from10 = banded_charge From10
 
 abbrev pub from15 : Query → ℤ
-from15 q = pos (banded (edges_of From15) q)
+from15 = banded_charge From15
 
 -- In block 7 a capacity of 1,000 kW should have been declared.
 abbrev pub due_in_block7 : List (Option ℕ)

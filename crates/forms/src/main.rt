@@ -2,11 +2,12 @@
 #![tactic(auto)]
 
 use describe::describe_line;
+use grammar::line::LONGEST_LINE;
 use std::io;
 use std::io::{BufReader, Read};
 
 /// How many bytes of a line are kept: one more than a line may have, so that a longer one is refused.
-const MOST_KEPT: usize = 1025;
+const MOST_KEPT: usize = LONGEST_LINE + 1;
 
 fn main(rt: HostRuntime) -> io::Result<()> {
     let input = BufReader::new(rt.alloc(), rt.stdin())?;

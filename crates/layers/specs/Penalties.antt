@@ -1,5 +1,5 @@
 -- A penalty for one station that declared a wrong capacity.
-use Rattle.std.specs.Prelude.{ℕ, ◌*◌, Bool, true, false, cond, List, [], ◌∷◌, ℤ, pos, negsuc, Some, None, Option, ◌==◌, nat_lt, slice_index_or}
+use Rattle.std.specs.Prelude.{ℕ, ◌*◌, Bool, cond, List, [], ◌∷◌, ℤ, pos, negsuc, Some, None, Option, is_none, ◌==◌, nat_lt, slice_index_or}
 use Rattle.tariff.specs.declared.query.Query.{Query}
 use Rattle.units.specs.declared.fault.Fault.TheVariants.{BadPenalty}
 use Rattle.units.specs.declared.fault.Fault.{Fault}
@@ -18,10 +18,6 @@ bad_capacity (Some kw) = Some (BadPenalty kw)
 abbrev pub penalty_refused : ℕ → List (Option ℕ) → Option Fault
 penalty_refused ceiling due = cond (nat_lt 3333 ceiling) (Some (BadPenalty ceiling)) (bad_capacity (first_one_above due))
 
-abbrev pub is_none : Option Fault → Bool
-is_none None = true
-is_none (Some fault) = false
-
 -- Whether there is no reason against the penalty.
 abbrev pub applies : ℕ → List (Option ℕ) → Bool
 applies ceiling due = is_none (penalty_refused ceiling due)
@@ -33,8 +29,7 @@ trebled (negsuc n) = pos 0
 
 -- The same question at another capacity.
 abbrev pub at_capacity : ℕ → Query → Query
-at_capacity kw q =
-    record { station = q.station; block = q.block; schedule = q.schedule; actual = q.actual; capacity = kw }
+at_capacity kw q = record q { capacity = kw }
 
 -- The capacity that `station` should have declared in the block, if it declared another.
 abbrev pub due_capacity : ℕ → List (Option ℕ) → Query → Option ℕ

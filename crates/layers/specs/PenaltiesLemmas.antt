@@ -1,25 +1,9 @@
--- A search for the first capacity that is too large, entry by entry; and what a penalty keeps of the laws below it.
-use Rattle.std.specs.Prelude.{◌≡◌, ℕ, suc, ◌+◌, ◌*◌, ◌<◌, ◌≤◌, Bool, true, false, cond, List, ◌∷◌, length, get_or, drop, ℤ, pos, negsuc, Some, None, Option, slice_index_or, unsigned_abs}
-use Rattle.std.proofs.lemmas.Bool.{cond-true, cond-false, le-ltb, lt-ltb}
+-- What a penalty keeps of the laws below it.
+use Rattle.std.specs.Prelude.{◌≡◌, ℕ, ◌*◌, ◌≤◌, Bool, true, false, cond, List, ℤ, pos, negsuc, Some, None, Option, unsigned_abs}
 use Rattle.tariff.specs.Charges.{magnitude}
-use Rattle.layers.specs.Penalties.{first_one_above, trebled, at_capacity, applies, raised, corrected, due_capacity, penal}
+use Rattle.layers.specs.Penalties.{trebled, at_capacity, applies, raised, corrected, due_capacity, penal}
 use Rattle.tariff.specs.declared.query.Query.{Query}
-use Rattle.std.proofs.Common.{drop-cons, ap, sym, ◌∙◌, mul_assoc, add-one, arith}
-
-module _ (due : List (Option ℕ)) (i : ℕ) (within : i < length due) (so_far : first_one_above due ≡ first_one_above (drop i due)) where
-  next : (o : Option ℕ) → slice_index_or due i None ≡ o → first_one_above due ≡ first_one_above (o ∷ drop (i + 1) due)
-  next o here =
-      let e : drop i due ≡ o ∷ drop (i + 1) due = rw add-one (drop-cons due i None within ∙ ap (λ x. x ∷ drop (suc i) due) here) in
-      so_far ∙ ap first_one_above e
-
-  pub found : (kw : ℕ) → slice_index_or due i None ≡ Some kw → 6400000 < kw → Some kw ≡ first_one_above due
-  found kw here over = sym (next (Some kw) here ∙ cond-true _ _ _ (lt-ltb 6400000 kw over))
-
-  pub passed : (kw : ℕ) → slice_index_or due i None ≡ Some kw → kw ≤ 6400000 → first_one_above due ≡ first_one_above (drop (i + 1) due)
-  passed kw here small = next (Some kw) here ∙ cond-false _ _ _ (le-ltb 6400000 kw small)
-
-  pub skipped : get_or due i None ≡ None → first_one_above due ≡ first_one_above (drop (i + 1) due)
-  skipped here = next None here
+use Rattle.std.proofs.Common.{mul_assoc, arith}
 
 trebled_bounded : (z : ℤ) → unsigned_abs (trebled z) ≤ 3 * unsigned_abs z
 trebled_bounded (pos n) = omega arith

@@ -1,12 +1,13 @@
-ghost use Rattle.std.specs.Prelude.{◌≡◌, ◌^◌, ◌<◌, Some, None, MatchResult, unsigned_abs};
-ghost use Rattle.layers.specs.Penalties.{applies, due_capacity, first_one_above, penal, penalty_refused, raised, trebled};
+ghost use Rattle.std.specs.Prelude.{◌≡◌, ◌^◌, ◌<◌, None, unsigned_abs};
+ghost use Rattle.layers.specs.Penalties.{applies, bad_capacity, due_capacity, first_one_above, penal, penalty_refused, raised, trebled};
 ghost use Rattle.layers.specs.PenaltiesLemmas.{penal_settled, penal_bounded};
+ghost use Rattle.units.specs.Refusals.{Checks};
 ghost use Rattle.std.proofs.Common.{rules};
 
 use tariff::query::Query;
 use tariff::tariff::{Tariff, sized_charge};
 use units::fault::Fault;
-use units::limits::STATION_KW;
+use units::limits::{BLOCKS, STATION_KW};
 
 /// The highest ceiling below a penalty: three times it is still a ceiling.
 const HIGHEST_BELOW: u32 = 3_333;
@@ -14,7 +15,7 @@ const HIGHEST_BELOW: u32 = 3_333;
 /// For each block, the capacity that should have been declared, if another was: none that no station has.
 #[derive(Clone, Copy)]
 struct DueCapacities {
-    blocks: [Option<u32>; 96],
+    blocks: [Option<u32>; BLOCKS],
     ghost low: { first_one_above blocks ≡ None },
 }
 
@@ -36,23 +37,33 @@ fn threefold(charge: i64) -> i64
 }
 
 /// The first capacity that no station has.
-fn first_above(due: &[Option<u32>; 96]) -> Option<u32>
+fn first_above(due: &[Option<u32>; BLOCKS]) -> Option<u32>
     ensures { result ≡ first_one_above due.now }
 {
-    for capacity in due {
-        if let Some(kw) = *capacity {
-            if kw > STATION_KW {
-                return Some(kw);
-            }
+    due.iter()
+        .copied()
+        .find(|capacity| capacity.is_some_and(|kw| kw > STATION_KW))
+        .flatten()
+}
+
+impl DueCapacities {
+    /// The capacities, or the first against which there is a reason.
+    fn new(due: [Option<u32>; BLOCKS]) -> Result<DueCapacities, Fault>
+        ensures { Checks (bad_capacity (first_one_above due)) (λ capacities. capacities.blocks ≡ due) result }
+    {
+        match first_above(&due) {
+            Some(kw) => Err(Fault::BadPenalty {
+                value: u64::from(kw),
+            }),
+            None => Ok(DueCapacities { blocks: due }),
         }
     }
-    None
 }
 
 impl<T: Tariff + Drop> Penalty<T> {
     /// A penalty over `below`, or the first reason against it: the ceiling, then the capacities in block order.
-    pub fn new(below: T, station: u8, due: [Option<u32>; 96]) -> Result<Penalty<T>, Fault>
-        ensures { MatchResult result (λ p. (p.below ≡ below) × (p.station ≡ station) × (p.due.blocks ≡ due) × (penalty_refused (T.Tariff.ceiling_of below) due ≡ None)) (λ e. penalty_refused (T.Tariff.ceiling_of below) due ≡ Some e) }
+    pub fn new(below: T, station: u8, due: [Option<u32>; BLOCKS]) -> Result<Penalty<T>, Fault>
+        ensures { Checks (penalty_refused (T.Tariff.ceiling_of below) due) (λ p. (p.below ≡ below) × (p.station ≡ station) × (p.due.blocks ≡ due)) result }
     {
         let ceiling = below.ceiling();
         if ceiling > HIGHEST_BELOW {
@@ -60,15 +71,10 @@ impl<T: Tariff + Drop> Penalty<T> {
                 value: u64::from(ceiling),
             });
         }
-        if let Some(kw) = first_above(&due) {
-            return Err(Fault::BadPenalty {
-                value: u64::from(kw),
-            });
-        }
         Ok(Penalty {
             below,
             station,
-            due: DueCapacities { blocks: due },
+            due: DueCapacities::new(due)?,
         })
     }
 }
@@ -108,12 +114,11 @@ impl<T: Tariff> Tariff for Penalty<T> {
     ghost numbered = { Prim.search rules };
 
     fn charge(&self, query: Query) -> i64 {
-        if !self.applies() {
-            return self.below.charge(query);
-        }
         match self.capacity_due(query) {
-            Some(capacity) => threefold(sized_charge(&self.below, Query { capacity, ..query })),
-            None => self.below.charge(query),
+            Some(capacity) if self.applies() => {
+                threefold(sized_charge(&self.below, Query { capacity, ..query }))
+            }
+            _ => self.below.charge(query),
         }
     }
 

@@ -1,5 +1,4 @@
 pub mod Figures
-pub mod Fits
 pub mod Fitting
 pub mod Listing
 pub mod Taking

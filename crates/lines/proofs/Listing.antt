@@ -1,6 +1,6 @@
 -- The numbers of a list are its pieces between spaces.
 use Rattle.std.proofs.Common.{◌≡◌, ℕ, ◌<◌, ◌≤◌, Bool, cond, eqb, true, false, List, [], ◌∷◌, ◌++◌, length, get_or, refl, sym, ap, ◌∙◌, subst, append-nil, arith, append_assoc}
-use Rattle.std.specs.List.{AllByRecursion, slice_split, onto_first}
+use Rattle.std.specs.List.{All, AllByRecursion, slice_split, onto_first}
 use Rattle.std.proofs.lemmas.List.Elements.{All-from_recursion}
 use Rattle.grammar.specs.Calls.{pieces}
 use Rattle.grammar.specs.Grammar.{Numeral, Numbers, spaced}
@@ -42,9 +42,12 @@ pub pieces_are : (bs : List ℕ) → slice_split is_space bs ≡ pieces [] bs
 pieces_are bs = sym (none_before bs) ∙ split_is [] bs
 
 -- each is a number
-pub numeral_at : (bs ds : List ℕ) (k : ℕ) → Numbers 96 bs → k < length (slice_split is_space bs) → ds ≡ get_or (slice_split is_space bs) k ds → Numeral ds
-numeral_at bs ds k h lt e = subst Numeral (sym e) (All-from_recursion Numeral _ (subst (AllByRecursion Numeral) (sym (pieces_are bs)) (sound h.each h.sound h.some h.bytes)) k ds lt)
+pub sound_pieces : (bs : List ℕ) → Numbers 96 bs → All Numeral (pieces [] bs)
+sound_pieces bs h = All-from_recursion Numeral _ (each h.each h.sound h.some h.bytes)
   where
-    sound : (ns : List (List ℕ)) → AllByRecursion Numeral ns → 1 ≤ length ns → bs ≡ spaced ns → AllByRecursion Numeral (pieces [] bs)
-    sound [] a s e = absurd (omega arith)
-    sound (n ∷ ns) a s e = subst (AllByRecursion Numeral) (sym (ap (pieces []) e ∙ pieces_spaced n ns a)) a
+    each : (ns : List (List ℕ)) → AllByRecursion Numeral ns → 1 ≤ length ns → bs ≡ spaced ns → AllByRecursion Numeral (pieces [] bs)
+    each [] a s e = absurd (omega arith)
+    each (n ∷ ns) a s e = subst (AllByRecursion Numeral) (sym (ap (pieces []) e ∙ pieces_spaced n ns a)) a
+
+pub numeral_at : (bs ds : List ℕ) (k : ℕ) → All Numeral (pieces [] bs) → k < length (slice_split is_space bs) → ds ≡ get_or (slice_split is_space bs) k ds → Numeral ds
+numeral_at bs ds k h lt e = subst Numeral (sym e) (subst (All Numeral) (sym (pieces_are bs)) h k ds lt)

@@ -1,19 +1,21 @@
-//! Reads a line as a form.
+//! A line as a form.
+mod reads;
+
 ghost use Rattle.std.specs.Prelude.{◌≡◌, map, MatchOption, ◌≢◌};
+ghost use Rattle.std.specs.List.{All};
 ghost use Rattle.grammar.specs.Calls.{name, sorts};
-ghost use Rattle.tokens.specs.Tokens.{letters_of};
-ghost use Rattle.lines.specs.Arguments.{part_sort};
-ghost use Rattle.lines.specs.Forms.{ReadsForm, Fits};
+ghost use Rattle.tokens.specs.Tokens.{SoundPart};
 
 use super::arguments::misfit;
 use arrayvec::ArrayVec;
 use grammar::heads::Head;
-use tokens::reader::Reader;
-use tokens::token::{Part, Token};
+use grammar::line::LONGEST_LINE;
+pub use reads::read_form;
+use tokens::token::Part;
 use units::fault::Fault;
 
 /// The longest line that is read.
-pub const MOST_BYTES: usize = 1024;
+pub const MOST_BYTES: usize = LONGEST_LINE;
 
 /// How many arguments are kept: one more than any head takes, so that a surplus one shows.
 pub const MOST_GATHERED: usize = 5;
@@ -21,22 +23,24 @@ pub const MOST_GATHERED: usize = 5;
 /// A line that is a form.
 #[derive(Drop)]
 pub struct Parts<'a> {
-    pub word: Token<'a>,
-    /// The first five arguments.
+    /// The letters of its word.
+    pub letters: &'a [u8],
+    /// The first five arguments, as a form holds them.
     pub args: ArrayVec<Part<'a>, MOST_GATHERED>,
     /// How many arguments there are, with those that are not kept.
     pub count: usize,
+    pub ghost sound: { ∥ All SoundPart args.items ∥₁ },
 }
 
 impl Parts<'_> {
+    ghost use Rattle.lines.specs.Arguments.{part_sort};
+    ghost use Rattle.lines.specs.Forms.{Fits};
+
     /// The head that the word spells.
     pub(crate) fn head(&self) -> Option<Head>
-        ensures { MatchOption result ((h : Head) → letters_of self.now.word.part ≢ name h) (λ h. letters_of self.now.word.part ≡ name h) }
+        ensures { MatchOption result ((h : Head) → self.now.letters.now ≢ name h) (λ h. self.now.letters.now ≡ name h) }
     {
-        match self.word.part {
-            Part::Word(letters) => Head::named(letters),
-            Part::Number(_) | Part::List(_) => None,
-        }
+        Head::named(self.letters)
     }
 
     /// Refuses the first argument that is missing, surplus or of the wrong sort.
@@ -50,27 +54,4 @@ impl Parts<'_> {
             None => Ok(()),
         }
     }
-}
-
-/// The form that the line spells; or where the line, if it is not too long, stops beginning a form.
-/// No memory is asked for.
-pub fn read_form<'a>(line: &'a [u8]) -> Result<Parts<'a>, Fault>
-    ensures { ReadsForm line.now result }
-{
-    if line.len() > MOST_BYTES {
-        return Err(Fault::LongLine {
-            length: line.len() as u64,
-        });
-    }
-    let mut reader = Reader::new(line);
-    let word = reader.word()?;
-    let mut args = ArrayVec::new();
-    let mut count = 0;
-    while let Some(token) = reader.next()? {
-        if !args.is_full() {
-            args.push(token.part);
-        }
-        count += 1;
-    }
-    Ok(Parts { word, args, count })
 }

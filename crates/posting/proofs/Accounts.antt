@@ -49,7 +49,7 @@ module _ (first : ℕ) (f : ℕ → Account → Account) (xs : List Account) whe
       let out : among first k (first + k) ≡ false = grind (arith, nat_tests) in
       changed_at first k f xs (first + k) d h ∙ rw out
 
-  pub changed_more : (k : ℕ) (a d : Account) → first + k < length xs → a ≡ f k (get_or xs (first + k) d) → set (changed first k f xs) (first + k) a ≡ changed first (k + 1) f xs
+  changed_more : (k : ℕ) (a d : Account) → first + k < length xs → a ≡ f k (get_or xs (first + k) d) → set (changed first k f xs) (first + k) a ≡ changed first (k + 1) f xs
   changed_more k a d h is = same_lists _ _ (simp (length-set, length_changed)) (λ i e l.
       let within : i < length xs = rw (length-set, length_changed) at l in
       elim (cases_eq i (first + k)) [
@@ -61,7 +61,7 @@ module _ (first : ℕ) (f : ℕ → Account → Account) (xs : List Account) whe
             rw get_or-set_other (changed_at first k f xs i e within ∙ rw (sym (among_other first k i other)) (sym (changed_at first (k + 1) f xs i e within)))
       ])
 
-  pub changed_past : (k : ℕ) → length xs ≤ first + k → changed first k f xs ≡ changed first (k + 1) f xs
+  changed_past : (k : ℕ) → length xs ≤ first + k → changed first k f xs ≡ changed first (k + 1) f xs
   changed_past k h = same_lists _ _ (simp length_changed) (λ i e l.
       let within : i < length xs = rw length_changed at l in
       let other : i ≡ first + k → ⊥ = λ p. omega arith in

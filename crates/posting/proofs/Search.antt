@@ -1,10 +1,15 @@
 -- The search for the first missing reading.
-use Rattle.std.proofs.Common.{◌≡◌, ℕ, zero, suc, ◌+◌, ◌-◌, ◌<◌, ◌≤◌, Bool, true, false, cond, List, Some, None, Option, sym, refl, ap, ◌∙◌, subst, inl, inr, arith}
+use Rattle.std.proofs.Common.{◌≡◌, ℕ, zero, suc, ◌+◌, ◌-◌, ◌<◌, ◌≤◌, Bool, true, false, cond, List, map, Some, None, Option, sym, refl, ap, ◌∙◌, subst, inl, inr, arith}
 use Rattle.posting.specs.Missing.{first_missing_of, FirstMissing, missing_at, missing_from, missing_in}
 use Rattle.posting.specs.declared.members.Members.{Members}
 use Rattle.posting.specs.declared.place.Place.{Place}
 use Rattle.std.proofs.lemmas.Bool.{cases_eq, cond-false, cond-true}
-use Rattle.std.specs.Option.{option_or}
+use Rattle.std.specs.Option.{option_map, option_or}
+use Rattle.std.specs.List.{find, range_with_len}
+
+same_option : (r : Option Place) → r ≡ option_map (λ p. p) r
+same_option None = refl
+same_option (Some p) = refl
 
 module _ (rs : List (Option ℕ)) (ex : Option Place) where
   -- one block of those that are left
@@ -21,11 +26,19 @@ module _ (rs : List (Option ℕ)) (ex : Option Place) where
   in_more : (b g end : ℕ) → g < end → missing_in rs ex b g (end - g) ≡ cond (missing_at rs ex g b) (Some (record { generator = g; block = b })) (missing_in rs ex b (g + 1) (end - (g + 1)))
   in_more b g end h = let left : end - g ≡ suc (end - (g + 1)) = omega arith in ap (missing_in rs ex b g) left
 
+  in_range : (b g n : ℕ) → find (λ p. missing_at rs ex p.generator p.block) (map (λ h. record { generator = h; block = b }) (range_with_len g n)) ≡ missing_in rs ex b g n
+  in_range b g zero = refl
+  in_range b g (suc n) = ap (cond (missing_at rs ex g b) (Some (record { generator = g; block = b }))) (in_range b (g + 1) n)
+
   pub in_no : (b g end : ℕ) → g < end → missing_at rs ex g b ≡ false → missing_in rs ex b g (end - g) ≡ missing_in rs ex b (g + 1) (end - (g + 1))
   in_no b g end h is = in_more b g end h ∙ cond-false _ _ _ is
 
   pub in_yes : (b g end : ℕ) → g < end → missing_at rs ex g b ≡ true → missing_in rs ex b g (end - g) ≡ Some (record { generator = g; block = b })
   in_yes b g end h is = in_more b g end h ∙ cond-true _ _ _ is
+
+  -- a search over the numbers from g on
+  pub in_found : (b g n : ℕ) (r : Option Place) → option_map (λ p. p) r ≡ find (λ p. missing_at rs ex p.generator p.block) (map (λ h. record { generator = h; block = b }) (range_with_len g n)) → r ≡ missing_in rs ex b g n
+  in_found b g n r e = same_option r ∙ e ∙ in_range b g n
 
   -- of n generators from g on, one that lacks a reading in the block b and before which none does, or none at all
   abbrev InBlock : ℕ → ℕ → ℕ → Option Place → Type 0

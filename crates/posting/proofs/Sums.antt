@@ -17,12 +17,12 @@ pub sum_to_none : (f : ℕ → ℤ) → sum_to f 0 ≡ pos 0
 unfolding sum_to
 sum_to_none f = refl
 
-pub sum_to_more : (f : ℕ → ℤ) (n : ℕ) → sum_to f (n + 1) ≡ sum_to f n +ℤ f n
+sum_to_more : (f : ℕ → ℤ) (n : ℕ) → sum_to f (n + 1) ≡ sum_to f n +ℤ f n
 unfolding sum_to
 sum_to_more f n = rw add-one
 
 -- a running sum, one block more
-pub sum_more : (f : ℕ → ℤ) (b : ℕ) (old x new : ℤ) → old ≡ sum_to f b → nat_abs old ≤ b * 64000000000 → x ≡ f b → nat_abs x ≤ 64000000000 → new ≡ old +ℤ x
+sum_more : (f : ℕ → ℤ) (b : ℕ) (old x new : ℤ) → old ≡ sum_to f b → nat_abs old ≤ b * 64000000000 → x ≡ f b → nat_abs x ≤ 64000000000 → new ≡ old +ℤ x
     → (new ≡ sum_to f (b + 1)) × (nat_abs new ≤ (b + 1) * 64000000000)
 sum_more f b old x new p small q least r = (omega (arith, ints, p, q, r, sum_to_more f b), omega (arith, ints))
 
@@ -98,10 +98,6 @@ day_whole w alive s m amount got each =
     ∙ sum_to_same _ amount 96 (λ b h.
     let long : length (weights_at w s m b) ≡ m.count = rw (length-map, length_loads) in
     all_shares (amount b) (weights_at w s m b) m.count long (block_alive w alive s m b))
-
--- a share of a block's amount, with the amount's bound
-pub share_kept : (m amount : ℤ) (ws : List ℕ) (k limit : ℕ) (x : ℤ) → m ≡ amount → x ≡ get_or (shares amount ws) k (pos 0) → nat_abs m ≤ limit → nat_abs x ≤ limit
-share_kept m amount ws k limit x e is small = rw (is, sym e) (omega (arith, share_small m ws k))
 
 -- a block's shares are no further from zero than its figures
 pub split_within : (figures : Amounts) (ws : List ℕ) (money energy : List ℤ) (k : ℕ) → Within 64000000000 figures → money ≡ shares figures.money ws → energy ≡ shares figures.energy ws

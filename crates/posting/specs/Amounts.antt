@@ -17,6 +17,10 @@ plus a b = record { money = a.money +ℤ b.money; energy = a.energy +ℤ b.energ
 abbrev pub Within : ℕ → Amounts → Type 0
 Within limit a = (unsigned_abs a.money ≤ limit) × (unsigned_abs a.energy ≤ limit)
 
+-- how large a block's charge, in paise, and its deviation, in kW, are at most, either way
+abbrev pub BlockSized : Amounts → Type 0
+BlockSized figures = (unsigned_abs figures.money ≤ 64000000000) × (unsigned_abs figures.energy ≤ 6400000)
+
 -- an account with these in the place of what stood there
 abbrev pub with_amounts : Amounts → Account → Account
 with_amounts sums account = record { installed = account.installed; money = sums.money; energy = sums.energy }

@@ -1,7 +1,7 @@
 //! A station in one block.
-ghost use Rattle.std.specs.Prelude.{◌≡◌, ℕ, ◌≤◌, length, slice_index_or, unsigned_abs};
+ghost use Rattle.std.specs.Prelude.{◌≡◌, ℕ, ◌≤◌, length, slice_index_or};
 ghost use Rattle.arrayvec.specs.ArrayVec.{array_vec_len};
-ghost use Rattle.posting.specs.Amounts.{amounts_at, no_amounts};
+ghost use Rattle.posting.specs.Amounts.{amounts_at, BlockSized, no_amounts};
 ghost use Rattle.posting.specs.Days.{charge_at, figures_at, share_at};
 ghost use Rattle.posting.specs.Sheets.{deviation_at, loads_at, query_of, sheet_of, weights_at};
 ghost use Rattle.share.specs.Held.{held};
@@ -46,7 +46,7 @@ impl<T: Tariff, K> Day<'_, T, K> {
         ensures { loads result.items ≡ loads_at (sheet_of self.now.pages accounts.now) self.now.members block }
     {
         let mut generators = ArrayVec::new();
-        for generator in self.members.first()..self.members.end() {
+        for generator in self.members.numbers() {
             generators.push(self.pages.generator_at(accounts, generator, block));
         }
         generators
@@ -72,8 +72,7 @@ impl<T: Tariff, K> Day<'_, T, K> {
     fn figures_of(&self, block: u8, generators: &Generators) -> Amounts
         ensures money { result.money ≡ T.Tariff.charge_of self.now.tariff.now (query_of self.now.pages.schedules.now self.now.station block (loads generators.now.each.now)) }
         ensures energy { result.energy ≡ deviation_of (query_of self.now.pages.schedules.now self.now.station block (loads generators.now.each.now)) }
-        ensures most { unsigned_abs result.money ≤ 64000000000 }
-        ensures farthest { unsigned_abs result.energy ≤ 6400000 }
+        ensures sized { BlockSized result }
     {
         let query = self.query(block, generators);
         Amounts {
@@ -85,13 +84,10 @@ impl<T: Tariff, K> Day<'_, T, K> {
     /// The charge and the deviation of the station in a block. They depend on no key.
     pub fn figures(&self, accounts: &[Account], block: u8) -> Amounts
         ensures value { result ≡ figures_at (T.Tariff.charge_of self.now.tariff.now) (sheet_of self.now.pages accounts.now) self.now.station self.now.members block }
-        ensures most { unsigned_abs result.money ≤ 64000000000 }
-        ensures farthest { unsigned_abs result.energy ≤ 6400000 }
+        ensures sized { BlockSized result }
     {
         let all = self.generators(accounts, block);
-        let Some(generators) = Generators::of(all.as_slice()) else {
-            unreachable()
-        };
+        let generators = Generators::of(&all).unwrap();
         self.figures_of(block, &generators)
     }
 }
@@ -101,13 +97,10 @@ impl<T: Tariff, K: Key> Day<'_, T, K> {
     pub(crate) fn weighed(&self, accounts: &[Account], block: u8) -> (Amounts, Weights)
         ensures figures { result.0 ≡ figures_at (T.Tariff.charge_of self.now.tariff.now) (sheet_of self.now.pages accounts.now) self.now.station self.now.members block }
         ensures weights { held result.1 ≡ weights_at K.Key.weighs (sheet_of self.now.pages accounts.now) self.now.members block }
-        ensures most { unsigned_abs result.0.money ≤ 64000000000 }
-        ensures farthest { unsigned_abs result.0.energy ≤ 6400000 }
+        ensures sized { BlockSized result.0 }
     {
         let all = self.generators(accounts, block);
-        let Some(generators) = Generators::of(all.as_slice()) else {
-            unreachable()
-        };
+        let generators = Generators::of(&all).unwrap();
         let figures = self.figures_of(block, &generators);
         (figures, Weights::of(self.key, &generators))
     }
@@ -118,8 +111,7 @@ impl<T: Tariff, K: Key> Day<'_, T, K> {
         ensures count { array_vec_len result.each ≡ self.now.members.count }
         ensures each { (k : ℕ) → slice_index_or result.each.items k no_amounts ≡ share_at (T.Tariff.charge_of self.now.tariff.now) K.Key.weighs (sheet_of self.now.pages accounts.now) self.now.station self.now.members k block }
         ensures fair { Fair (charge_at (T.Tariff.charge_of self.now.tariff.now) (sheet_of self.now.pages accounts.now) self.now.station self.now.members block) (weights_at K.Key.weighs (sheet_of self.now.pages accounts.now) self.now.members block) × Fair (deviation_at (sheet_of self.now.pages accounts.now) self.now.station self.now.members block) (weights_at K.Key.weighs (sheet_of self.now.pages accounts.now) self.now.members block) }
-        ensures most { unsigned_abs result.figures.money ≤ 64000000000 }
-        ensures farthest { unsigned_abs result.figures.energy ≤ 6400000 }
+        ensures sized { BlockSized result.figures }
     {
         let (figures, weights) = self.weighed(accounts, block);
         BlockShares::new(figures, &weights)

@@ -1,6 +1,6 @@
 //! The first reading that a day lacks.
 ghost use Rattle.std.specs.Prelude.{◌≡◌, ◌<◌};
-ghost use Rattle.posting.specs.Missing.{first_missing_of, FirstMissing, missing_at};
+ghost use Rattle.posting.specs.Missing.{first_missing_of, FirstMissing, missing_at, missing_in};
 
 use crate::members::Members;
 use crate::pages::entry_or;
@@ -10,7 +10,7 @@ use units::limits::BLOCKS;
 /// Whether a reading is needed and is not on the page.
 fn is_missing(readings: &[Option<u32>], except: Option<Place>, place: Place) -> bool
     requires generator { place.generator < 512 }
-    requires block { place.block < 96 }
+    requires block { place.block < 256 }
     ensures { result ≡ missing_at readings.now except place.generator place.block }
 {
     let at = BLOCKS * place.generator + place.block;
@@ -29,7 +29,7 @@ pub fn first_missing(
 {
     let mut missing = None;
     'blocks: for block in 0..BLOCKS {
-        for generator in members.first()..members.end() {
+        for generator in members.numbers() {
             let place = Place { generator, block };
             if is_missing(readings, except, place) {
                 missing = Some(place);
@@ -38,4 +38,20 @@ pub fn first_missing(
         }
     }
     missing
+}
+
+/// The first of a station's generators whose reading is missing in the block.
+pub fn missing_in_block(
+    readings: &[Option<u32>],
+    members: Members,
+    except: Option<Place>,
+    block: u8,
+) -> Option<Place>
+    ensures { result ≡ missing_in readings.now except block members.first members.count }
+{
+    let block = usize::from(block);
+    members
+        .numbers()
+        .map(|generator| Place { generator, block })
+        .find(|place| is_missing(readings, except, *place))
 }

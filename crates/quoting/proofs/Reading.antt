@@ -4,7 +4,6 @@ use Rattle.quoting.specs.Drafts.{Made, given_in}
 use Rattle.quoting.specs.Lines.{Begins, Granted, Refused, after, blamed, read, refusal}
 use Rattle.quoting.specs.Steps.{Given, ending, nothing}
 use Rattle.quoting.specs.Taking.{Took}
-use Rattle.quoting.specs.Tests.{first}
 use Rattle.quoting.specs.Words.{Said, Says}
 use Rattle.quoting.specs.declared.draft.Draft.{Draft}
 use Rattle.quoting.specs.declared.request.Request.{Request}
@@ -14,6 +13,7 @@ use Rattle.std.proofs.lemmas.Result.{err_from_is_err_and}
 use Rattle.quoting.specs.declared.complaint.Cause.{Cause}
 use Rattle.quoting.specs.declared.complaint.Complaint.{Complaint}
 use Rattle.std.specs.Str.Lines.{IsFirstLine}
+use Rattle.units.specs.Refusals.{Checks, first}
 
 pub begins_push : (xs : List Said) (text rest line more : List ℕ) (x : Said) → Begins text xs rest → IsFirstLine rest line more → Says line x
     → Begins text (xs ++ (x ∷ [])) more
@@ -79,7 +79,7 @@ module _ (text rest line more : List ℕ) (xs : List Said) (before exit : Draft)
 
 -- the lines have ended
 pub all_read : (text rest : List ℕ) (xs : List Said) (draft : Draft) (r : Result Request Cause) → Begins text xs rest → length rest ≡ 0 → read 1 nothing xs ≡ Ok (given_in draft)
-    → MatchResult r (λ q. (first (ending (given_in draft)) ≡ None) × Made (given_in draft) q) (λ c. first (ending (given_in draft)) ≡ Some c)
+    → Checks (first (ending (given_in draft))) (Made (given_in draft)) r
     → MatchResult (placed (length xs + 1) r) (Granted text) (Refused text)
 all_read text rest xs draft (Ok q) begins ends reads h =
     record { says = xs; given = given_in draft; rest = rest; begins = begins; ends = ends; reads = reads; complete = h.0; made = h.1 }

@@ -2,7 +2,6 @@
 use Rattle.quoting.specs.Choices.{name_of}
 use Rattle.quoting.specs.Requests.{loads_of}
 use Rattle.quoting.specs.Steps.{Given, taken, tests}
-use Rattle.quoting.specs.Tests.{first}
 use Rattle.quoting.specs.declared.choice.KeyChoice.TheVariants.{Units}
 use Rattle.quoting.specs.declared.complaint.Cause.{Cause}
 use Rattle.quoting.specs.declared.draft.Draft.{Draft}
@@ -13,6 +12,7 @@ use Rattle.share.specs.Loads.{loads}
 use Rattle.std.specs.Option.{option_map, unwrap_or}
 use Rattle.std.specs.Prelude.{◌≡◌, Some, None, Result, MatchResult}
 use Rattle.tariff.specs.declared.banded.Banded.TheVariants.{From10}
+use Rattle.units.specs.Refusals.{first}
 
 abbrev pub given_in : Draft → Given
 given_in d =

@@ -1,5 +1,6 @@
 pub mod Choices
 pub mod Drafts
+pub mod Layout
 pub mod Lines
 pub mod Quotes
 pub mod Reports

@@ -2,12 +2,12 @@
 use Rattle.std.specs.Prelude.{◌≡◌, ℕ, ◌+◌, ◌⊎◌, List, [], ◌∷◌, length, Some, None, Ok, Err, Option, Result}
 use Rattle.quoting.specs.Drafts.{Made}
 use Rattle.quoting.specs.Steps.{Given, nothing, tests, taken, ending}
-use Rattle.quoting.specs.Tests.{first}
 use Rattle.quoting.specs.Words.{Said, Says}
 use Rattle.quoting.specs.declared.complaint.Cause.{Cause}
 use Rattle.quoting.specs.declared.complaint.Complaint.{Complaint}
 use Rattle.quoting.specs.declared.request.Request.{Request}
 use Rattle.std.specs.Str.Lines.{IsFirstLine}
+use Rattle.units.specs.Refusals.{first}
 
 -- Why a line is refused, after what was given before it.
 abbrev pub refusal : Given → Said → Option Cause

@@ -17,8 +17,8 @@ asked schedule ls =
 pub record Quoted (price : Query → ℤ) (weighs : Load → Load → ℕ) (schedule : ℕ) (ls : List Load) (r : Quotation) : Type 0 where
   pub query : r.query ≡ asked schedule ls
   -- the actual less the schedule
-  pub deviation : r.deviation ≡ deviation_of (asked schedule ls)
-  pub charge : r.charge ≡ price (asked schedule ls)
+  pub deviation : r.owed.energy ≡ deviation_of (asked schedule ls)
+  pub charge : r.owed.money ≡ price (asked schedule ls)
   -- each generator's money is its share of the charge, and its energy that of the deviation
   pub count : length r.each.items ≡ length ls
   pub money : moneys r.each.items ≡ shares (price (asked schedule ls)) (weights weighs ls)

@@ -1,13 +1,15 @@
 -- How a request comes from its lines, one after another.
 use Rattle.std.specs.Prelude.{ℕ, not, ◌||◌, List, [], ◌∷◌, ◌++◌, length, is_some, Some, None, Option, ◌==◌, nat_lt}
-use Rattle.quoting.specs.Tests.{Test, test, rate_tests, load_tests}
+use Rattle.quoting.specs.Tests.{rate_tests, load_tests}
 use Rattle.quoting.specs.declared.choice.KeyChoice.{KeyChoice}
+use Rattle.quoting.specs.declared.complaint.Cause.{Cause}
 use Rattle.quoting.specs.declared.complaint.Cause.TheVariants.{Above, LateTariff, LateKey, SecondSchedule, EarlyGenerator, ManyGenerators, NoSchedule, NoGenerator}
 use Rattle.quoting.specs.declared.complaint.Quantity.TheVariants as quantity
 use Rattle.quoting.specs.declared.entry.Entry.TheVariants.{Tariff, Key, Schedule, Generator}
 use Rattle.quoting.specs.declared.entry.Entry.{Entry}
 use Rattle.quoting.specs.declared.entry.TariffName.{TariffName}
 use Rattle.share.specs.declared.load.Load.{Load}
+use Rattle.units.specs.Refusals.{when}
 
 -- What the lines so far have given.
 pub record Given : Type 0 where
@@ -20,19 +22,19 @@ abbrev pub nothing : Given
 nothing = record { tariff = None; key = None; schedule = None; loads = [] }
 
 -- The tariff comes first, then the key, then the schedule, each once; then the generators, 32 at most.
-abbrev pub tests : Given → Entry → List Test
-tests s (Tariff name) = test ((is_some s.tariff || is_some s.key) || is_some s.schedule) LateTariff ∷ rate_tests name
-tests s (Key key) = test (is_some s.key || is_some s.schedule) LateKey ∷ []
-tests s (Schedule kw) = test (is_some s.schedule) SecondSchedule ∷ test (nat_lt 6400000 kw) (Above quantity.Schedule 6400000) ∷ []
-tests s (Generator load) = test (not (is_some s.schedule)) EarlyGenerator ∷ test (length s.loads == 32) ManyGenerators ∷ load_tests load
+abbrev pub tests : Given → Entry → List (Option Cause)
+tests s (Tariff name) = when ((is_some s.tariff || is_some s.key) || is_some s.schedule) LateTariff ∷ rate_tests name
+tests s (Key key) = when (is_some s.key || is_some s.schedule) LateKey ∷ []
+tests s (Schedule kw) = when (is_some s.schedule) SecondSchedule ∷ when (nat_lt 6400000 kw) (Above quantity.Schedule 6400000) ∷ []
+tests s (Generator load) = when (not (is_some s.schedule)) EarlyGenerator ∷ when (length s.loads == 32) ManyGenerators ∷ load_tests load
 
 -- What an accepted line adds.
 abbrev pub taken : Given → Entry → Given
-taken s (Tariff name) = record { tariff = Some name; key = s.key; schedule = s.schedule; loads = s.loads }
-taken s (Key key) = record { tariff = s.tariff; key = Some key; schedule = s.schedule; loads = s.loads }
-taken s (Schedule kw) = record { tariff = s.tariff; key = s.key; schedule = Some kw; loads = s.loads }
-taken s (Generator load) = record { tariff = s.tariff; key = s.key; schedule = s.schedule; loads = s.loads ++ (load ∷ []) }
+taken s (Tariff name) = record s { tariff = Some name }
+taken s (Key key) = record s { key = Some key }
+taken s (Schedule kw) = record s { schedule = Some kw }
+taken s (Generator load) = record s { loads = s.loads ++ (load ∷ []) }
 
 -- What may be missing at the end.
-abbrev pub ending : Given → List Test
-ending s = test (not (is_some s.schedule)) NoSchedule ∷ test (length s.loads == 0) NoGenerator ∷ []
+abbrev pub ending : Given → List (Option Cause)
+ending s = when (not (is_some s.schedule)) NoSchedule ∷ when (length s.loads == 0) NoGenerator ∷ []

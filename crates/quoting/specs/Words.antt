@@ -1,5 +1,5 @@
 -- What a line says by itself: its words, and what they mean.
-use Rattle.std.specs.Prelude.{◌≡◌, ℕ, ◌+◌, ◌-◌, ◌*◌, ◌<◌, min, cond, List, [], ◌∷◌, ◌++◌, map, length, Some, None, Ok, Err, codes, Option, Result, ◌==◌, slice_index_or}
+use Rattle.std.specs.Prelude.{◌≡◌, ℕ, ◌+◌, ◌-◌, ◌*◌, ◌<◌, min, cond, List, [], ◌∷◌, ◌++◌, length, Some, None, Ok, Err, codes, Option, Result, ◌==◌, slice_index_or}
 use Rattle.quoting.specs.declared.choice.KeyChoice.TheVariants as key
 use Rattle.quoting.specs.declared.choice.KeyChoice.{KeyChoice}
 use Rattle.quoting.specs.declared.complaint.Cause.TheVariants.{UnknownLine, UnknownTariff, UnknownKey, WordCount, NotNumber}
@@ -8,7 +8,6 @@ use Rattle.quoting.specs.declared.entry.Entry.TheVariants.{Tariff, Key, Schedule
 use Rattle.quoting.specs.declared.entry.Entry.{Entry}
 use Rattle.quoting.specs.declared.entry.TariffName.TheVariants.{Bands, Rates}
 use Rattle.quoting.specs.declared.entry.TariffName.{TariffName}
-use Rattle.quoting.specs.declared.words.Words.{Words}
 use Rattle.share.specs.declared.load.Load.{Load}
 use Rattle.std.specs.Option.{ok_or}
 use Rattle.std.specs.Char.{is_ascii_digit, is_whitespace, is_not_whitespace}
@@ -18,9 +17,6 @@ use Rattle.tariff.specs.declared.banded.Banded.TheVariants.{From10, From15}
 -- Nothing where the line is blank, an entry, or why it is refused.
 abbrev pub Said : Type 0
 Said = Result (Option Entry) Cause
-
-abbrev pub words_of : Words → List (List ℕ)
-words_of w = map (λ x. x.now) w.each.items
 
 -- The text begins with these words, with white space before each, and `rest` follows them.
 abbrev pub Spaced : List ℕ → List (List ℕ) → List ℕ → Type 0

@@ -1,5 +1,5 @@
 //! A line of a request, read by itself: its numbers are not yet held against their limits.
-ghost use Rattle.quoting.specs.Words.{Says, entry_in, generator_in, key_in, schedule_in, tariff_in, words_of};
+ghost use Rattle.quoting.specs.Words.{Says, entry_in, generator_in, key_in, schedule_in, tariff_in};
 ghost use Rattle.std.specs.Prelude.{◌≡◌};
 
 use crate::choice::KeyChoice;
@@ -25,7 +25,7 @@ pub enum Entry {
 }
 
 fn read_tariff(words: &Words) -> Result<TariffName, Cause>
-    ensures { result ≡ tariff_in (words_of words.now) }
+    ensures { result ≡ tariff_in words.now }
 {
     match words.at(1) {
         "single" => {
@@ -46,7 +46,7 @@ fn read_tariff(words: &Words) -> Result<TariffName, Cause>
 }
 
 fn read_key(words: &Words) -> Result<KeyChoice, Cause>
-    ensures { result ≡ key_in (words_of words.now) }
+    ensures { result ≡ key_in words.now }
 {
     words.expect(2)?;
     match words.at(1) {
@@ -57,14 +57,14 @@ fn read_key(words: &Words) -> Result<KeyChoice, Cause>
 }
 
 fn read_schedule(words: &Words) -> Result<u32, Cause>
-    ensures { result ≡ schedule_in (words_of words.now) }
+    ensures { result ≡ schedule_in words.now }
 {
     words.expect(2)?;
     words.number_at(1)
 }
 
 fn read_generator(words: &Words) -> Result<Load, Cause>
-    ensures { result ≡ generator_in (words_of words.now) }
+    ensures { result ≡ generator_in words.now }
 {
     words.expect(4)?;
     let installed = words.number_at(1)?;
@@ -79,7 +79,7 @@ fn read_generator(words: &Words) -> Result<Load, Cause>
 
 /// The first word says which line it is.
 fn read_entry(words: &Words) -> Result<Entry, Cause>
-    ensures { result ≡ entry_in (words_of words.now) }
+    ensures { result ≡ entry_in words.now }
 {
     match words.at(0) {
         "tariff" => Ok(Entry::Tariff(read_tariff(words)?)),

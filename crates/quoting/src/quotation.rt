@@ -1,6 +1,9 @@
 //! What a block costs, and who bears it.
+ghost use Rattle.quoting.specs.Layout.{generator_line, generator_lines, quotation_text, station_line};
 ghost use Rattle.quoting.specs.Quotes.{Quoted};
 ghost use Rattle.share.specs.Loads.{loads};
+ghost use Rattle.std.specs.Fmt.{WritesOnOk};
+ghost use Rattle.std.specs.Prelude.{Some};
 
 use arrayvec::ArrayVec;
 use share::amounts::Amounts;
@@ -17,10 +20,8 @@ use units::limits::GENERATORS;
 pub struct Quotation {
     /// The schedule, the actual and the capacity of the station.
     pub query: Query,
-    /// The actual less the schedule, in kW.
-    pub deviation: i64,
-    /// In paise: positive where it is payable, negative where it is receivable.
-    pub charge: i64,
+    /// The charge, positive where it is payable and negative where it is receivable, and the deviation.
+    pub owed: Amounts,
     /// The share of each generator: of the charge, and of the deviation.
     pub each: ArrayVec<Amounts, GENERATORS>,
 }
@@ -42,39 +43,64 @@ pub fn quote_for<T: Tariff, K: Key>(
         actual: station.actual,
         capacity: station.capacity,
     };
-    let deviation = query.deviation();
-    let charge = tariff.charge(query);
     let owed = Amounts {
-        money: charge,
-        energy: deviation,
+        money: tariff.charge(query),
+        energy: query.deviation(),
     };
-    Quotation {
-        query,
-        deviation,
-        charge,
-        each: Weights::of(key, generators).split_amounts(owed),
-    }
+    let each = Weights::of(key, generators).split_amounts(owed);
+    Quotation { query, owed, each }
 }
 
-impl fmt::Display for Quotation {
-    fn fmt<W: fmt::Write>(&self, f: &mut fmt::Formatter<W>) -> fmt::Result {
+/// The line of the generator with this number.
+#[tactic(auto, using(crate::proofs::Printing::lines_written))]
+fn write_generator<W: fmt::Write>(
+    f: &mut fmt::Formatter<W>,
+    number: usize,
+    share: Amounts,
+) -> fmt::Result
+    ensures { WritesOnOk W.write_str_gives f.old result (generator_line (number, share)) f.new }
+{
+    let Amounts { money, energy } = share;
+    writeln!(f, "generator {number:>6} {money:>14} {energy:>11}")
+}
+
+impl Quotation {
+    #[tactic(auto, using(crate::proofs::Printing::lines_written))]
+    fn write_station<W: fmt::Write>(&self, f: &mut fmt::Formatter<W>) -> fmt::Result
+        ensures { WritesOnOk W.write_str_gives f.old result (station_line self.now) f.new }
+    {
         let Query {
             schedule,
             actual,
             capacity,
             ..
         } = self.query;
-        let deviation = self.deviation;
-        let charge = self.charge;
-        f.write_str("          schedule/kW  actual/kW capacity/kW deviation/kW   charge/paise\n")?;
+        let deviation = self.owed.energy;
+        let charge = self.owed.money;
         writeln!(
             f,
             "station   {schedule:>11} {actual:>10} {capacity:>11} {deviation:>12} {charge:>14}"
-        )?;
-        f.write_str("\n          number    money/paise   energy/kW\n")?;
-        for (number, &Amounts { money, energy }) in self.each.iter().enumerate() {
-            writeln!(f, "generator {number:>6} {money:>14} {energy:>11}")?;
+        )
+    }
+
+    #[tactic(auto, using(crate::proofs::Printing::lines_walked))]
+    fn write_generators<W: fmt::Write>(&self, f: &mut fmt::Formatter<W>) -> fmt::Result
+        ensures { WritesOnOk W.write_str_gives f.old result (generator_lines self.now.each.items) f.new }
+    {
+        for (number, &share) in self.each.iter().enumerate() {
+            write_generator(f, number, share)?;
         }
         Ok(())
+    }
+}
+
+impl fmt::Display for Quotation {
+    ghost output = { λ quotation. Some (quotation_text quotation) };
+
+    fn fmt<W: fmt::Write>(&self, f: &mut fmt::Formatter<W>) -> fmt::Result {
+        f.write_str("          schedule/kW  actual/kW capacity/kW deviation/kW   charge/paise\n")?;
+        self.write_station(f)?;
+        f.write_str("\n          number    money/paise   energy/kW\n")?;
+        self.write_generators(f)
     }
 }

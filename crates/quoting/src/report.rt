@@ -1,7 +1,7 @@
 //! From the text of a request to the text of its quote.
 ghost use Rattle.quoting.specs.Reports.{Failed, Reported};
 ghost use Rattle.quoting.specs.declared.report.Failure.TheVariants as failures;
-ghost use Rattle.std.specs.Prelude.{◌≡◌};
+ghost use Rattle.std.specs.Prelude.{◌≡◌, string_bytes};
 ghost use Rattle.std.specs.Result.{MatchResult};
 
 use crate::answer::answer;
@@ -37,7 +37,7 @@ impl From<AllocError> for Failure {
 
 /// The quote that the text of a request asks for, in lines.
 pub fn report(heap: Global, text: &str) -> Result<String, Failure>
-    ensures { MatchResult result (λ _. Reported text.now) (Failed text.now) }
+    ensures { MatchResult result (λ lines. Reported text.now (string_bytes lines)) (Failed text.now) }
 {
     let quotation = answer(text)?;
     Ok(format!(in heap; "{quotation}")?)

@@ -21,7 +21,6 @@ pub struct Request {
     pub(crate) generators: ArrayVec<Generator, GENERATORS>,
     ghost within: { schedule ≤ 6400000 },
     ghost some: { 0 < length generators.items },
-    ghost few: { length generators.items ≤ 32 },
 }
 
 impl Clone for Request {

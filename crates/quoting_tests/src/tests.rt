@@ -8,9 +8,7 @@ const GENERATOR: &str = "generator 1000 0 0\n";
 /// Each text is refused with its line.
 fn refused(rt: &impl Abort, heap: Global, cases: &[(&str, &str)]) -> Result<(), Fail> {
     for &(text, line) in cases {
-        let Err(failure) = report(heap, text) else {
-            return Err(Fail::new("the request was granted"));
-        };
+        let failure = report(heap, text).err().ok_or("the request was granted")?;
         assert!(rt; failure.to_string(heap)?.as_str() == line, "{}", line);
     }
     Ok(())

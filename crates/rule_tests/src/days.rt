@@ -25,9 +25,7 @@ fn day_of_two(rt: HostRuntime) -> Result<(), Fail> {
         capacities: &[3000; 192],
         readings: &readings,
     };
-    let Some(members) = Members::of(0, 2) else {
-        return Err(Fail::new("two generators"));
-    };
+    let members = Members::of(0, 2).ok_or("two generators")?;
     let mut accounts = [EMPTY; 3];
     accounts[1].installed = 3000;
     let day = Day {
@@ -49,9 +47,7 @@ fn missing_but_one(rt: HostRuntime) -> Result<(), Fail> {
     let mut readings = [Some(0); 192];
     readings[3] = None;
     readings[96 + 3] = None;
-    let Some(members) = Members::of(0, 2) else {
-        return Err(Fail::new("two generators"));
-    };
+    let members = Members::of(0, 2).ok_or("two generators")?;
     let except = Some(Place {
         generator: 0,
         block: 3,

@@ -1,4 +1,4 @@
-//! Runs tariffs, splits and a station's day on a few figures.
+//! Runs tariffs, splits and a station's day on a few figures, and compares the words of refusals.
 #![tactic(auto)]
 
 #[cfg(test)]
@@ -7,3 +7,5 @@ mod days;
 mod piles;
 #[cfg(test)]
 mod shares;
+#[cfg(test)]
+mod wording;

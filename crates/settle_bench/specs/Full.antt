@@ -6,13 +6,13 @@ use Rattle.posting.specs.Days.{energy_share, money_share, no_account, standing_c
 use Rattle.posting.specs.Sheets.{Sheet}
 use Rattle.posting.specs.declared.members.Members.{Members}
 use Rattle.share.specs.Keys.{by_units}
-use Rattle.tariff.specs.Bands.{banded, edges_of}
+use Rattle.tariff.specs.Bands.{banded_charge}
 use Rattle.tariff.specs.declared.banded.Banded.TheVariants.{From10}
 use Rattle.tariff.specs.declared.query.Query.{Query}
 
 -- the tariff with bands from 10 percent
 abbrev pub from10 : Query → ℤ
-from10 q = pos (banded (edges_of From10) q)
+from10 = banded_charge From10
 
 -- the generators of the station t
 pub record Placed (t : ℕ) (m : Members) : Type 0 where

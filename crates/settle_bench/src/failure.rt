@@ -4,13 +4,15 @@ ghost use Rattle.std.specs.Prelude.{◌≡◌};
 ghost use Rattle.units.specs.declared.fault.Fault.TheVariants.{NoMemory};
 
 use std::alloc::AllocError;
+use thiserror::Error;
 use units::fault::Fault;
 
 /// Why no book was reported.
-#[derive(Clone, Copy, Debug)]
+#[derive(Clone, Copy, Debug, Error)]
 pub enum Failure {
+    #[error("{0}")]
     Refused(Fault),
-    /// No book was asked for.
+    #[error("no book was asked for")]
     NoBook,
 }
 

@@ -118,10 +118,3 @@ share_small m ws k =
       | inl h ↦ rw share_at (share_within m _ _ (sum ws) (sum_by-take-le (λ x. x) ws k) (sum_by-take-le (λ x. x) ws (k + 1)))
       | inr h ↦ rw (get_or_past (shares m ws) k (pos 0) (rw length_shares h)) (omega arith)
     ]
-
--- 100 over three equal weights
-thirds : shares (pos 100) (1 ∷ 1 ∷ 1 ∷ []) ≡ pos 33 ∷ pos 33 ∷ pos 34 ∷ []
-thirds = refl
-
-thirds_due : shares (negsuc 99) (1 ∷ 1 ∷ 1 ∷ []) ≡ negsuc 32 ∷ negsuc 32 ∷ negsuc 33 ∷ []
-thirds_due = refl

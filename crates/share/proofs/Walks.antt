@@ -9,10 +9,10 @@ use Rattle.std.proofs.lemmas.Simd.{map-map}
 use Rattle.std.specs.List.{AllByRecursion}
 
 -- what a walk has pushed once it is past the last generator
-pub weights_all : (w : Load → Load → ℕ) (gs : List Generator) (i : ℕ) (station : Load) (each : List ℕ) → length gs ≤ i → station ≡ totals (loads gs)
+pub weights_all : (w : Load → Load → ℕ) (gs walked : List Generator) (i : ℕ) (station : Load) (each : List ℕ) → walked ≡ gs → length walked ≤ i → station ≡ totals (loads gs)
     → each ≡ map (λ g. w g.load station) (take i gs) → each ≡ weights w (loads gs)
-weights_all w gs i station each end all is =
-    is ∙ ap (map (λ g. w g.load station)) (take_all i gs end) ∙ rw all (sym (map-map (λ l. w l (totals (loads gs))) (λ g. g.load) gs))
+weights_all w gs walked i station each same end all is =
+    is ∙ ap (map (λ g. w g.load station)) (take_all i gs (rw same at end)) ∙ rw all (sym (map-map (λ l. w l (totals (loads gs))) (λ g. g.load) gs))
 
 -- each generator has some power installed
 built : (gs : List Generator) → AllByRecursion (λ l. 0 < l.installed) (loads gs)

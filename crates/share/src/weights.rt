@@ -20,7 +20,7 @@ pub struct Weights {
     ghost small: { total ≤ 6400000 },
 }
 
-/// A copy takes no memory, so it can't fail. By hand, since no derive goes over ghost fields.
+/// A copy takes no memory, so it can't fail. By hand, since over ghost fields no `Clone` is derived without `Copy`.
 impl Clone for Weights {
     ghost is_clone = { λ w copy. (copy.each ≡ w.each) × (copy.total ≡ w.total) };
 

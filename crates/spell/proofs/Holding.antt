@@ -1,43 +1,45 @@
 -- Which words a form holds. Assumes nothing.
-use Rattle.std.proofs.Common.{◌≡◌, ℕ, suc, ◌+◌, ◌*◌, ◌≤◌, true, false, not, cond, leb, ltb, Some, None, Option, List, [], ◌∷◌, map, length, refl, ap, ◌∙◌, arith}
-use Rattle.std.specs.List.{position_or_len}
-use Rattle.std.specs.Option.{unwrap_or}
-use Rattle.std.proofs.lemmas.Bool.{cond_both, and_parts, leb-true, ltb-false}
-use Rattle.spell.specs.Words.{all_are_small, held_word, held_first, room, rooms}
+use Rattle.std.proofs.Common.{◌≡◌, ℕ, ◌+◌, ◌*◌, ◌^◌, ◌≤◌, Bool, true, not, None, List, [], ◌∷◌, length, refl, arith}
+use Rattle.std.specs.List.{list_all, position_or_len}
+use Rattle.std.proofs.lemmas.Bool.Decides.{nat_tests}
+use Rattle.std.proofs.lemmas.List.Sums.{sum_by-cons}
+use Rattle.grammar.proofs.Exactly.{name_word}
+use Rattle.grammar.specs.Calls.{name}
+use Rattle.grammar.specs.declared.heads.Head.{Head}
+use Rattle.spell.specs.Causes.{misfit}
+use Rattle.spell.specs.Words.{held_word, room, rooms, line_room}
 use Rattle.spell.specs.declared.words.Word.{Word}
-use Rattle.spell.specs.declared.words.Word.TheVariants.{Number, Amount, List as Listed}
 
--- the words before the first that no form holds
+module _ {X : Type 0} (test : X → Bool) where
+  -- how many items stand before the first that fails
+  abbrev passing : List X → ℕ
+  passing = position_or_len (λ x. not (test x))
 
-first_unheld : (ws : List Word) → (position_or_len (λ w. not (held_word w)) ws ≡ held_first (map held_word ws)) × (held_first (map held_word ws) ≤ length ws)
-first_unheld [] = (refl, omega arith)
-first_unheld (w ∷ ws) =
-    let more = first_unheld ws in
-    (elim (held_word w) as (λ b. (cond (not (not b)) (1 + position_or_len (λ w. not (held_word w)) ws) 0 ≡ cond b (suc (held_first (map held_word ws))) 0) × (cond b (suc (held_first (map held_word ws))) 0 ≤ suc (length ws))) [
-      | true ↦ (omega (arith, more.0), omega (arith, more.1))
-      | false ↦ (refl, omega arith)
-    ])
+  all_from_passing : (xs : List X) → length xs ≤ passing xs → list_all test xs ≡ true
+  all_from_passing [] h = refl
+  all_from_passing (x ∷ xs) h = grind (arith, nat_tests, all_from_passing xs)
 
-pub held_is : (ws : List Word) (r : Option ℕ) → r ≡ cond (ltb (position_or_len (λ w. not (held_word w)) ws) (length ws)) (Some (position_or_len (λ w. not (held_word w)) ws)) None → unwrap_or r (length ws) ≡ held_first (map held_word ws)
-held_is ws r e =
-    let first = first_unheld ws in
-    ap (λ o. unwrap_or o (length ws)) e
-    ∙ cond_both (ltb (position_or_len (λ w. not (held_word w)) ws) (length ws)) _ _ (λ o. unwrap_or o (length ws) ≡ held_first (map held_word ws)) (λ _. first.0) (λ h. omega (arith, first.0, first.1, ltb-false _ _ h))
+  passing_from_all : (xs : List X) → list_all test xs ≡ true → length xs ≤ passing xs
+  passing_from_all [] h = omega arith
+  passing_from_all (x ∷ xs) h = grind (arith, nat_tests, passing_from_all xs)
+
+  pub all_fit : (xs : List X) → misfit test xs ≡ None → list_all test xs ≡ true
+  all_fit xs e = grind (arith, nat_tests, all_from_passing xs)
+
+  pub no_misfit : (xs : List X) → list_all test xs ≡ true → misfit test xs ≡ None
+  no_misfit xs h = grind (arith, nat_tests, passing_from_all xs)
 
 -- held words are not long
 
 held_room : (w : Word) → held_word w ≡ true → room w ≤ 2018
-held_room (Number n) h = omega arith
-held_room (Amount z) h = omega arith
-held_room (Listed ns) h =
-    let p = and_parts (leb 1 (length ns.now)) _ h in
-    let q = and_parts (leb (length ns.now) 96) (all_are_small ns.now) p.1 in
-    omega (arith, leb-true (length ns.now) 96 q.0)
+held_room w h = grind (arith, nat_tests)
 
-pub held_rooms : (ws : List Word) → length ws ≤ held_first (map held_word ws) → rooms ws ≤ 2019 * length ws
-held_rooms [] h = omega arith
-held_rooms (w ∷ ws) h =
-    (elim (held_word w) as (λ b. held_word w ≡ b → suc (length ws) ≤ cond b (suc (held_first (map held_word ws))) 0 → suc (room w) + rooms ws ≤ 2019 * suc (length ws)) [
-      | true ↦ λ e k. omega (arith, held_room w e, held_rooms ws (omega arith))
-      | false ↦ λ e k. absurd (omega arith)
-    ]) refl h
+held_rooms : (ws : List Word) → misfit held_word ws ≡ None → rooms ws ≤ 2019 * length ws
+held_rooms ws e = each ws (all_fit held_word ws e)
+  where
+    each : (ws : List Word) → list_all held_word ws ≡ true → rooms ws ≤ 2019 * length ws
+    each [] h = omega arith
+    each (w ∷ ws) h = grind (arith, sum_by-cons (λ w. 1 + room w) w ws, held_room w, each ws)
+
+pub line_has_room : (h : Head) (ws : List Word) → length ws ≤ 4 → misfit held_word ws ≡ None → line_room (name h) ws ≤ 2 ^ 32
+line_has_room h ws few e = omega (arith, held_rooms ws e, (name_word h).2)

@@ -1,8 +1,9 @@
 -- What is written of a call reads back as the call. Assumes nothing.
-use Rattle.std.proofs.Common.{◌≡◌, ℕ, suc, ◌≤◌, true, false, cond, leb, List, [], ◌∷◌, map, length, take, Ok, Err, Result, sym, refl, ap, ◌∙◌, subst, arith}
-use Rattle.std.specs.List.{AllByRecursion}
+use Rattle.std.proofs.Common.{◌≡◌, ℕ, ◌≤◌, ◌^◌, Bool, Option, List, [], ◌∷◌, length, take, None, Ok, Err, Result, sym, refl, ap, ◌∙◌, subst, arith}
+use Rattle.std.specs.Bool.{Decides}
+use Rattle.std.specs.List.{AllByRecursion, list_all}
 use Rattle.std.proofs.lemmas.List.{take_at}
-use Rattle.std.proofs.lemmas.Bool.{and_parts, and_from, ltb-true, lt-ltb, le-leb, leb-true}
+use Rattle.std.proofs.lemmas.Bool.Decides.{Decides-and, Decides-ltb, nat_tests}
 use Rattle.units.specs.declared.call.Call.{Call}
 use Rattle.units.specs.declared.call.Opening.{Opening}
 use Rattle.units.specs.declared.fault.Fault.{Fault}
@@ -13,51 +14,46 @@ use Rattle.grammar.specs.Reads.{Accepted, ReadsCall, ReadsOpening}
 use Rattle.grammar.proofs.Exactly.{calls_exact, openings_exact}
 use Rattle.spell.specs.Laws.{Same, ReadBack, FitsLine, OneLineEach, WrittenFits, Both}
 use Rattle.spell.specs.Pages.{wrote, onto}
-use Rattle.spell.specs.Spelling.{spelling}
-use Rattle.spell.specs.Words.{small, all_are_small, holds, held_first}
-use Rattle.spell.proofs.Refusing.{passed, spelt}
+use Rattle.spell.specs.Spelling.{spelling, spelling_of}
+use Rattle.spell.specs.Words.{small, all_are_small, holds}
+use Rattle.spell.proofs.Holding.{all_fit, no_misfit}
 
 -- `holds` tells what a form holds
 
-small_numbers : (ns : List ℕ) → all_are_small ns ≡ true → AllByRecursion Small ns
-small_numbers [] h = tt
-small_numbers (n ∷ ns) h = let p = and_parts (small n) (all_are_small ns) h in (ltb-true _ _ p.0, small_numbers ns p.1)
+all_decides : {X : Type 0} (test : X → Bool) (P : X → Type 0) → ((x : X) → Decides (test x) (P x)) → (xs : List X) → Decides (list_all test xs) (AllByRecursion P xs)
+all_decides test P each [] = (λ _. tt, λ _. refl)
+all_decides test P each (x ∷ xs) = Decides-and _ _ (each x) (all_decides test P each xs)
 
-numbers_small : (ns : List ℕ) → AllByRecursion Small ns → all_are_small ns ≡ true
-numbers_small [] h = refl
-numbers_small (n ∷ ns) h = and_from _ _ (lt-ltb _ _ h.0) (numbers_small ns h.1)
+small_decides : (ns : List ℕ) → Decides (all_are_small ns) (AllByRecursion Small ns)
+small_decides = all_decides small Small (λ n. Decides-ltb n (10 ^ 13))
 
-held_value : (v : Value) → holds v ≡ true → Held v
-held_value (one n) h = ltb-true _ _ h
-held_value (many ns) h =
-    let p = and_parts (leb 1 (length ns)) _ h in
-    let q = and_parts (leb (length ns) 96) (all_are_small ns) p.1 in
-    (leb-true _ _ p.0, leb-true _ _ q.0, small_numbers ns q.1)
+holds_decides : (v : Value) → Decides (holds v) (Held v)
+holds_decides (one n) = Decides-ltb n (10 ^ 13)
+holds_decides (many ns) = let each = small_decides ns in (λ t. grind (arith, nat_tests), λ h. grind (arith, nat_tests))
 
-value_held : (v : Value) → Held v → holds v ≡ true
-value_held (one n) h = lt-ltb _ _ h
-value_held (many ns) h = and_from _ _ (le-leb _ _ h.0) (and_from _ _ (le-leb _ _ h.1) (numbers_small ns h.2))
-
-held_values : (vs : List Value) → length (map holds vs) ≤ held_first (map holds vs) → AllByRecursion Held vs
-held_values [] h = tt
-held_values (v ∷ vs) h =
-    (elim (holds v) as (λ b. holds v ≡ b → suc (length (map holds vs)) ≤ cond b (suc (held_first (map holds vs))) 0 → AllByRecursion Held (v ∷ vs)) [
-      | true ↦ λ e k. (held_value v e, held_values vs (omega arith))
-      | false ↦ λ e k. absurd (omega arith)
-    ]) refl h
-
-values_held : (vs : List Value) → AllByRecursion Held vs → length (map holds vs) ≤ held_first (map holds vs)
-values_held [] h = omega arith
-values_held (v ∷ vs) h =
-    let e : holds v ≡ true = value_held v h.0 in
-    subst (λ b. suc (length (map holds vs)) ≤ cond b (suc (held_first (map holds vs))) 0) (sym e) (omega (arith, values_held vs h.1))
+values_decide : (vs : List Value) → Decides (list_all holds vs) (AllByRecursion Held vs)
+values_decide = all_decides holds Held holds_decides
 
 -- what was written
+
+spelt : (unheld : Option Fault) (line page : List ℕ) → 1024 ≤ length page → unheld ≡ None → length line ≤ 1024 → wrote (Ok (length line)) (onto line page) ≡ spelling_of unheld line page
+unfolding spelling_of
+spelt unheld line page long all size = grind (arith, nat_tests)
+
+record Passed (unheld : Option Fault) (line before after : List ℕ) (n : ℕ) : Type 0 where
+  pub held : unheld ≡ None
+  pub short : length line ≤ 1024
+  pub size : n ≡ length line
+  pub page : after ≡ onto line before
+
+passed : (unheld : Option Fault) (line page after : List ℕ) (n : ℕ) → wrote (Ok n) after ≡ spelling_of unheld line page → Passed unheld line page after n
+unfolding spelling_of
+passed unheld line page after n e = grind (arith, nat_tests)
 
 pub fits_written : WrittenFits
 fits_written a page after n e =
     let p = passed _ _ _ _ _ e in
-    record { held = held_values a.values p.held; short = p.short }
+    record { held = (values_decide a.values).0 (all_fit holds a.values p.held); short = p.short }
 
 written_line : (a : Asked) (page after : List ℕ) (n : ℕ) → wrote (Ok n) after ≡ spelling a page → take n after ≡ spelled (form a)
 written_line a page after n e =
@@ -69,7 +65,7 @@ its_line : (a : Asked) → FitsLine a → Accepted (spelled (form a)) a
 its_line a fits = record { short = fits.short; held = fits.held; bytes = refl }
 
 its_text : (a : Asked) → FitsLine a → (page : List ℕ) → 1024 ≤ length page → wrote (Ok (length (spelled (form a)))) (onto (spelled (form a)) page) ≡ spelling a page
-its_text a fits page h = spelt _ _ page h (values_held a.values fits.held) fits.short
+its_text a fits page h = spelt _ _ page h (no_misfit holds a.values ((values_decide a.values).1 fits.held)) fits.short
 
 -- a line reads as each x that it spells
 abbrev Takes : (X : Type 0) → (X → Asked) → (List ℕ → Result X Fault → Type 0) → Type 0

@@ -2,5 +2,4 @@ pub mod Answering
 pub mod Holding
 pub mod Lawful
 pub mod Laying
-pub mod Refusing
 pub mod Texts

@@ -35,7 +35,7 @@ pub record FitsLine (a : Asked) : Type 0 where
 pub record OneLine (X : Type 0) (asks : X → Asked) (Reads : List ℕ → Result X Fault → Type 0) (x : X) : Type 0 where
   pub line : List ℕ
   pub reads : Reads line (Ok x)
-  pub written : (page : List ℕ) → 1024 ≤ length page → wrote (Ok (length line)) (onto line page) ≡ spelling (asks x) page
+  pub written : (page : List ℕ) → most_bytes ≤ length page → wrote (Ok (length line)) (onto line page) ≡ spelling (asks x) page
   pub only : (other : List ℕ) (y : X) → asks y ≡ asks x → Reads other (Ok y) → other ≡ line
 
 abbrev pub OneLineEach : (X : Type 0) → (X → Asked) → (List ℕ → Result X Fault → Type 0) → Type 0

@@ -1,11 +1,11 @@
 -- Texts on a page.
-use Rattle.std.specs.Prelude.{◌≡◌, ℕ, suc, ◌+◌, ◌^◌, ◌≤◌, Bool, cond, List, [], ◌∷◌, ◌++◌, length, drop, Ok, Err, Result, slice_set}
+use Rattle.std.specs.Prelude.{◌≡◌, ℕ, suc, ◌+◌, ◌^◌, ◌≤◌, List, [], ◌∷◌, ◌++◌, length, drop, Some, None, Option, Ok, Err, Result, slice_set}
 use Rattle.std.specs.List.{flat_map}
 use Rattle.units.specs.declared.fault.Fault.{Fault}
 use Rattle.spell.specs.declared.writer.Writer.{Writer}
 
 -- the page with the text from this place on; what reaches beyond the page's end is lost
-abbrev pub laid : ℕ → List ℕ → List ℕ → List ℕ
+unfoldable pub laid : ℕ → List ℕ → List ℕ → List ℕ
 laid at [] page = page
 laid at (b ∷ bs) page = laid (suc at) bs (slice_set page at b)
 
@@ -36,11 +36,19 @@ pub record Wrote : Type 0 where
 abbrev pub wrote : Result ℕ Fault → List ℕ → Wrote
 wrote answer page = record { answer = answer; page = page }
 
--- A text is refused for the first cause that holds, and the page stays as it was; else it stands at the front.
-unfoldable pub writing : List (Bool × Fault) → List ℕ → List ℕ → Wrote
-writing [] text page = wrote (Ok (length text)) (onto text page)
-writing (c ∷ cs) text page = cond c.0 (wrote (Err c.1) page) (writing cs text page)
+-- the text at the front of the page; or its refusal, and the page as it was
+abbrev pub writing : Option Fault → List ℕ → List ℕ → Wrote
+writing None text page = wrote (Ok (length text)) (onto text page)
+writing (Some f) text page = wrote (Err f) page
 
--- a head and words, each after a space, in brackets, and a line feed
+-- each after a space
+abbrev pub after_spaces : List (List ℕ) → List ℕ
+after_spaces = flat_map (λ text. 32 ∷ text)
+
+-- a head and words, in brackets
+abbrev pub bracketed : List ℕ → List (List ℕ) → List ℕ
+bracketed head texts = (40 ∷ (head ++ after_spaces texts)) ++ 41 ∷ []
+
+-- with a line feed
 abbrev pub line_fed : List ℕ → List (List ℕ) → List ℕ
-line_fed head texts = ((40 ∷ (head ++ flat_map (λ t. 32 ∷ t) texts)) ++ 41 ∷ []) ++ 10 ∷ []
+line_fed head texts = bracketed head texts ++ 10 ∷ []

@@ -1,23 +1,23 @@
 //! Spells calls as lines.
-ghost use Rattle.std.specs.Prelude.{◌≡◌, ◌≤◌, ◌^◌, map, length};
+ghost use Rattle.std.specs.Prelude.{◌≡◌, ◌≤◌, ◌^◌, length};
 ghost use Rattle.grammar.specs.Calls.{asked, name, opens};
+ghost use Rattle.spell.specs.Causes.{misfit};
 ghost use Rattle.spell.specs.Pages.{Lays, wrote};
 ghost use Rattle.spell.specs.Spelling.{spelling, spelling_of};
 ghost use Rattle.spell.specs.Words.{held_word, line_room, line_text};
 
-use crate::held::held_words;
+use crate::held::all_held;
+use crate::page::long_enough;
 use crate::words::Word;
 use crate::words::Word::{List, Number};
 use crate::writer::Writer;
 use grammar::heads::Head;
+pub use grammar::line::LONGEST_LINE;
 use units::call::{Call, Opening};
 use units::fault::Fault;
 
 /// The least page that a line is written to.
-pub const LINE_PAGE: usize = 1024;
-
-/// The longest line.
-pub const LONGEST_LINE: usize = 1024;
+pub const LINE_PAGE: usize = LONGEST_LINE;
 
 /// Writes the line to the front of the page, and answers its length.
 fn line(page: &mut [u8], head: Head, words: &[Word]) -> usize
@@ -30,21 +30,13 @@ fn line(page: &mut [u8], head: Head, words: &[Word]) -> usize
 }
 
 /// Writes the head and its words as a line.
+#[tactic(auto, using(crate::proofs::Holding::line_has_room, crate::proofs::Laying::onto_page), unfolding(crate::specs::Spelling::spelling_of))]
 fn spell(head: Head, words: &[Word], page: &mut [u8]) -> Result<usize, Fault>
     requires { length words.now ≤ 4 }
-    ensures { wrote result page.new ≡ spelling_of (map held_word words.now) (line_text (name head) words.now) page.old }
+    ensures { wrote result page.new ≡ spelling_of (misfit held_word words.now) (line_text (name head) words.now) page.old }
 {
-    if page.len() < LINE_PAGE {
-        return Err(Fault::ShortOutput {
-            length: page.len() as u64,
-        });
-    }
-    let held = held_words(words);
-    if held < words.len() {
-        return Err(Fault::BadArgument {
-            position: held as u64 + 1,
-        });
-    }
+    long_enough(page, LINE_PAGE)?;
+    all_held(words)?;
     let length = line(&mut [], head, words);
     if length > LONGEST_LINE {
         return Err(Fault::LongLine {
@@ -62,7 +54,7 @@ pub fn spell_call(call: &Call, page: &mut [u8]) -> Result<usize, Fault>
     ensures { wrote result page.new ≡ spelling (asked call.now) page.old }
 {
     let head = Head::of(call);
-    match call {
+    match *call {
         Call::File {
             station: subject,
             from,
@@ -91,7 +83,7 @@ pub fn spell_call(call: &Call, page: &mut [u8]) -> Result<usize, Fault>
             station,
             number,
             notice,
-            values,
+            ref values,
         } => {
             let values = List(values.as_slice());
             let words = [Number(station), Number(number), Number(notice), values];

@@ -1,14 +1,15 @@
 //! Which arguments a form holds.
-ghost use Rattle.std.specs.Prelude.{◌≡◌, map};
-ghost use Rattle.spell.specs.Words.{small, all_are_small, held_word, held_first};
+ghost use Rattle.std.specs.Prelude.{◌≡◌};
+ghost use Rattle.spell.specs.Causes.{misfit};
+ghost use Rattle.spell.specs.Words.{small, all_are_small, held_word};
+ghost use Rattle.units.specs.Refusals.{Passes};
 
 use crate::words::Word;
+use grammar::line::MOST_NUMBERS;
+use units::fault::Fault;
 
 /// The first number of more than 13 digits.
 const TOO_LARGE: u64 = 10_000_000_000_000;
-
-/// Numbers of a list, at most.
-const MOST_NUMBERS: usize = 96;
 
 /// Whether the number has at most 13 digits.
 fn is_small(n: u64) -> bool
@@ -29,18 +30,20 @@ fn is_held(word: Word) -> bool
     ensures { result ≡ held_word word.entry }
 {
     match word {
-        Word::Number(n) => is_small(*n),
+        Word::Number(n) => is_small(n),
         Word::Amount(_) => false,
         Word::List(ns) => !ns.is_empty() && ns.len() <= MOST_NUMBERS && all_small(ns),
     }
 }
 
-/// How many words stand before the first that no form holds.
-pub fn held_words(words: &[Word]) -> usize
-    ensures { result ≡ held_first (map held_word words.now) }
+/// Refuses the first word that no form holds, by its position from 1.
+pub fn all_held(words: &[Word]) -> Result<(), Fault>
+    ensures { Passes (misfit held_word words.now) result }
 {
-    words
-        .iter()
-        .position(|word| !is_held(*word))
-        .unwrap_or(words.len())
+    match words.iter().position(|word| !is_held(*word)) {
+        Some(before) => Err(Fault::BadArgument {
+            position: before as u64 + 1,
+        }),
+        None => Ok(()),
+    }
 }

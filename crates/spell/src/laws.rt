@@ -3,23 +3,17 @@ ghost use Rattle.spell.specs.Examples.{Examples};
 ghost use Rattle.spell.specs.Laws.{ReadBack, OneLineEach, WrittenFits, Both};
 
 /// Reading what was written of a call gives the call.
-pub fn spelled_reads_back() -> bool
+pub fn spelled_reads_back()
     ensures { Both ReadBack }
-{
-    true
-}
+{}
 
 /// A call that fits a line has exactly one line, and what is written fits.
-pub fn fitting_call_has_one_line() -> bool
+pub fn fitting_call_has_one_line()
     ensures one { Both OneLineEach }
     ensures fits { WrittenFits }
-{
-    true
-}
+{}
 
 /// A few lines as they read.
-pub fn worked_lines() -> bool
+pub fn worked_lines()
     ensures { Examples }
-{
-    true
-}
+{}

@@ -6,6 +6,7 @@ pub mod calls;
 pub mod figures;
 mod held;
 pub mod laws;
+mod page;
 pub mod statement;
 mod words;
 mod writer;

@@ -3,10 +3,9 @@
 //! What reaches beyond the page's end is counted and not written, so an empty page measures a text. Places stay below
 //! 2^32, so that no sum of them wraps.
 ghost use Rattle.std.specs.Prelude.{◌≡◌, ◌+◌, ◌*◌, [], ◌∷◌, ◌++◌, map, length, decimal};
-ghost use Rattle.std.specs.List.{flat_map};
 ghost use Rattle.grammar.specs.Grammar.{spaced};
-ghost use Rattle.spell.specs.Pages.{HasRoom, Writes};
-ghost use Rattle.spell.specs.Words.{text_of, words_text, line_text, room, rooms, line_room};
+ghost use Rattle.spell.specs.Pages.{HasRoom, Writes, after_spaces};
+ghost use Rattle.spell.specs.Words.{text_of, line_text, room, rooms, line_room};
 
 use crate::words::Word;
 use itoa::{Buffer, Integer};
@@ -18,6 +17,7 @@ pub struct Writer<'a> {
     at: usize,
 }
 
+#[tactic(auto, using(crate::proofs::Texts::texts))]
 impl<'a> Writer<'a> {
     /// A writer that stands at the front of the page.
     pub fn new(page: &'a mut [u8]) -> Writer<'a>
@@ -47,7 +47,7 @@ impl<'a> Writer<'a> {
     }
 
     /// The bytes as they are.
-    pub fn write(&mut self, text: &[u8])
+    fn write(&mut self, text: &[u8])
         requires { HasRoom (length text.now) self.old }
         ensures { Writes text.now (length text.now) self.old self.new }
     {
@@ -65,27 +65,18 @@ impl<'a> Writer<'a> {
         self.write(digits.format(n).as_bytes());
     }
 
-    /// Each number after a space.
-    fn numbers(&mut self, ns: &[u64])
-        requires { HasRoom (21 * length ns.now) self.old }
-        ensures { Writes (flat_map (λ n. 32 ∷ decimal n) ns.now) (21 * length ns.now) self.old self.new }
-    {
-        for n in ns {
-            self.put(b' ');
-            self.number(*n);
-        }
-    }
-
     /// Numbers with one space between.
-    fn spaced_numbers(&mut self, ns: &[u64])
+    fn numbers(&mut self, ns: &[u64])
         requires { HasRoom (21 * length ns.now) self.old }
         ensures { Writes (spaced (map decimal ns.now)) (21 * length ns.now) self.old self.new }
     {
-        let [first, rest @ ..] = ns else {
-            return;
-        };
-        self.number(*first);
-        self.numbers(rest);
+        if let [first, rest @ ..] = ns {
+            self.number(*first);
+            for n in rest {
+                self.put(b' ');
+                self.number(*n);
+            }
+        }
     }
 
     /// A word, without a space before it.
@@ -94,11 +85,11 @@ impl<'a> Writer<'a> {
         ensures { Writes (text_of word.entry) (room word.entry) self.old self.new }
     {
         match word {
-            Word::Number(n) => self.number(*n),
-            Word::Amount(z) => self.number(*z),
+            Word::Number(n) => self.number(n),
+            Word::Amount(z) => self.number(z),
             Word::List(ns) => {
                 self.put(b'(');
-                self.spaced_numbers(ns);
+                self.numbers(ns);
                 self.put(b')');
             }
         }
@@ -107,7 +98,7 @@ impl<'a> Writer<'a> {
     /// Each word after a space.
     fn words(&mut self, words: &[Word])
         requires { HasRoom (rooms words.now) self.old }
-        ensures { Writes (words_text words.now) (rooms words.now) self.old self.new }
+        ensures { Writes (after_spaces (map text_of words.now)) (rooms words.now) self.old self.new }
     {
         for word in words {
             self.put(b' ');

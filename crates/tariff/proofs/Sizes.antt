@@ -1,7 +1,7 @@
 -- How large a charge, and a sum of charges, can be.
-use Rattle.std.proofs.Common.{◌≡◌, ℕ, ◌+◌, ◌*◌, ◌^◌, ◌<◌, ◌≤◌, List, length, get_or, take, ℤ, pos, negsuc, ◌+ℤ◌, ◌-ℤ◌, nat_abs, sym, ap, ◌∙◌, arith, w64, SFits, to_z, of_z}
+use Rattle.std.proofs.Common.{◌≡◌, ℕ, ◌+◌, ◌*◌, ◌^◌, ◌<◌, ◌≤◌, List, length, get_or, take, ℤ, pos, ◌+ℤ◌, ◌-ℤ◌, nat_abs, sym, ap, ◌∙◌, arith, w64, SFits, to_z, of_z}
 use Rattle.std.proofs.lemmas.Nat.{mul-le}
-use Rattle.std.proofs.lemmas.Int.{ints, to_z-of_z}
+use Rattle.std.proofs.lemmas.Int.{ints, to_z-of_z, fits_signed_from_abs}
 use Rattle.std.proofs.lemmas.List.Sums.{fold_more}
 use Rattle.tariff.specs.Charges.{total}
 use Rattle.tariff.specs.declared.query.Query.{Query}
@@ -16,20 +16,16 @@ difference_small k m n p q = grind (arith, ints)
 unsigned_abs_add : (a b : ℤ) → nat_abs (a +ℤ b) ≤ nat_abs a + nat_abs b
 unsigned_abs_add a b = grind (arith, ints)
 
-small_fits : (z : ℤ) → nat_abs z < 2 ^ 63 → SFits w64 z
-small_fits (pos n) h = record { sfits = h }
-small_fits (negsuc n) h = record { sfits = omega arith }
-
 -- A turn of the loop over a day: `a` so far, and `r` for the query at i.
 module _ (i : ℕ) (a r : ℤ) (within : i < 96) (small : nat_abs a ≤ i * 2 ^ 46) (bound : nat_abs r < 2 ^ 46) where
   sum_small : nat_abs (a +ℤ r) ≤ (i + 1) * 2 ^ 46
   sum_small = omega (arith, unsigned_abs_add a r)
 
   same : to_z w64 (of_z w64 r) ≡ r
-  same = to_z-of_z w64 r (small_fits r (omega arith))
+  same = to_z-of_z w64 r (fits_signed_from_abs w64 r (omega arith))
 
   pub sum_fits : SFits w64 (a +ℤ to_z w64 (of_z w64 r))
-  sum_fits = rw same (small_fits (a +ℤ r) (omega (arith, sum_small)))
+  sum_fits = rw same (fits_signed_from_abs w64 (a +ℤ r) (omega (arith, sum_small)))
 
   sum_same : to_z w64 (of_z w64 (a +ℤ to_z w64 (of_z w64 r))) ≡ a +ℤ r
   sum_same = to_z-of_z w64 (a +ℤ to_z w64 (of_z w64 r)) sum_fits ∙ ap (λ z. a +ℤ z) same

@@ -3,7 +3,7 @@ use Rattle.std.proofs.Common.{◌≡◌, ℕ, ◌*◌, ◌≤◌, cond, leb, pos
 use Rattle.std.proofs.lemmas.Nat.{mul-le}
 use Rattle.std.proofs.lemmas.Bool.{cond_both, leb-true, leb-false}
 use Rattle.std.proofs.lemmas.Bool.Decides.{nat_tests}
-use Rattle.tariff.specs.Bands.{banded, edges_of, error_of, charge_in_bands}
+use Rattle.tariff.specs.Bands.{banded, banded_charge, edges_of, error_of, charge_in_bands}
 use Rattle.tariff.specs.Table.{Row, free, low, middle, high, Within, row_charge, Tabled}
 use Rattle.tariff.specs.declared.banded.Banded.TheVariants.{From10, From15}
 use Rattle.tariff.specs.declared.banded.Banded.{Banded}
@@ -47,6 +47,6 @@ rising_tabled e q p₁ p₂ =
       charged = λ row h. ap pos (charges e c d rising higher row h);
     }
 
-pub tabled : (t : Banded) (q : Query) → Tabled (edges_of t) q (pos (banded (edges_of t) q))
+pub tabled : (t : Banded) (q : Query) → Tabled (edges_of t) q (banded_charge t q)
 tabled From10 q = rising_tabled (edges_of From10) q (omega arith) (omega arith)
 tabled From15 q = rising_tabled (edges_of From15) q (omega arith) (omega arith)

@@ -1,5 +1,5 @@
 -- The banded tariffs.
-use Rattle.std.specs.Prelude.{ℕ, ◌+◌, ◌-◌, ◌*◌}
+use Rattle.std.specs.Prelude.{ℕ, ◌+◌, ◌-◌, ◌*◌, ℤ, pos}
 use Rattle.tariff.specs.Charges.{magnitude, between, nearest}
 use Rattle.tariff.specs.declared.banded.Banded.{Banded}
 use Rattle.tariff.specs.declared.banded.Banded.TheVariants.{From10, From15}
@@ -30,3 +30,7 @@ charge_in_bands e c d =
 
 abbrev pub banded : Edges → Query → ℕ
 banded e q = charge_in_bands e q.capacity (error_of q)
+
+-- The charge by the bands of a tariff.
+abbrev pub banded_charge : Banded → Query → ℤ
+banded_charge t q = pos (banded (edges_of t) q)

@@ -1,5 +1,5 @@
-ghost use Rattle.std.specs.Prelude.{◌≡◌, ◌^◌, ◌<◌, pos};
-ghost use Rattle.tariff.specs.Bands.{banded, code_of_bands, edges_of, charge_in_bands};
+ghost use Rattle.std.specs.Prelude.{◌≡◌, ◌^◌, ◌<◌};
+ghost use Rattle.tariff.specs.Bands.{banded_charge, code_of_bands, edges_of, charge_in_bands};
 ghost use Rattle.tariff.specs.Charges.{between};
 ghost use Rattle.tariff.specs.Table.{Tabled};
 ghost use Rattle.std.proofs.Common.{rules};
@@ -75,7 +75,7 @@ fn in_bands(edges: Edges, capacity: u32, error: u64) -> u64
 }
 
 impl Tariff for Banded {
-    ghost charge_of = { λ t q. pos (banded (edges_of t) q) };
+    ghost charge_of = { banded_charge };
 
     ghost ceiling_of = { λ _. 38 };
 
@@ -107,12 +107,12 @@ impl Tariff for Banded {
 
 /// The parts of an error that lie in the bands come to what its one row charges. There is nothing to run.
 fn bands_follow_the_table(tariff: Banded, query: Query)
-    ensures { Tabled (edges_of tariff) query (pos (banded (edges_of tariff) query)) }
+    ensures { Tabled (edges_of tariff) query (banded_charge tariff query) }
 {}
 
 /// The charge, with what the table says of it: it is that of the one row into which the error falls.
 pub fn charge_by_table(tariff: Banded, query: Query) -> i64
-    ensures value { result ≡ pos (banded (edges_of tariff) query) }
+    ensures value { result ≡ banded_charge tariff query }
     ensures table { Tabled (edges_of tariff) query result }
 {
     bands_follow_the_table(tariff, query);

@@ -1,5 +1,6 @@
-ghost use Rattle.std.specs.Prelude.{◌≡◌, ◌<◌, ◌≤◌, Some, None, MatchResult};
+ghost use Rattle.std.specs.Prelude.{◌≡◌, ◌<◌, ◌≤◌, MatchResult};
 ghost use Rattle.tariff.specs.Rates.{larger_rate, rate_refused, single};
+ghost use Rattle.units.specs.Refusals.{Checks};
 ghost use Rattle.units.specs.declared.fault.Fault.TheVariants.{HighRate};
 ghost use Rattle.tariff.specs.RatesLemmas.{rates_bounded};
 ghost use Rattle.tariff.specs.Charges.{deviation_of};
@@ -36,7 +37,7 @@ fn checked_rate(rate: u32) -> Result<(), Fault>
 impl SingleRate {
     /// A tariff of two rates, or the first of them that is above 4,000.
     pub fn new(export: u32, domestic: u32) -> Result<SingleRate, Fault>
-        ensures { MatchResult result (λ t. (t.export ≡ export) × (t.domestic ≡ domestic) × (rate_refused export domestic ≡ None)) (λ e. rate_refused export domestic ≡ Some e) }
+        ensures { Checks (rate_refused export domestic) (λ t. (t.export ≡ export) × (t.domestic ≡ domestic)) result }
     {
         checked_rate(export)?;
         checked_rate(domestic)?;

@@ -2,6 +2,7 @@
 use Rattle.std.proofs.Common.{◌≡◌, ℕ, suc, ◌+◌, ◌-◌, ◌<◌, ◌≤◌, true, false, ◌&&◌, eqb, ltb, List, [], ◌∷◌, ◌++◌, length, get_or, take, drop, Some, None, Option, Ok, Err, Result, MatchResult, IsErrAnd, sym, refl, ap, ◌∙◌, subst, ⊎_elim, append_assoc, add-zero, one-add, arith, length-append, take-append-drop, length-take-le, get_or-drop}
 use lib.Seq.{take-append-add}
 use Rattle.std.specs.Int.{is_in_range}
+use Rattle.std.proofs.lemmas.Result.{MatchResult-at_ok, MatchResult-at_err, err_from_is_err_and}
 use Rattle.std.proofs.lemmas.List.{take_rest, take_at, drop_more, get_or_at, get_or-append-add, length_push}
 use Rattle.std.proofs.lemmas.Bool.{cond_both, cond-true, cond-false, and_from, and_left, and_right, eqb-true, ne_eqb, eq-eqb, lt-ltb, le-ltb, le-leb, cases_lt}
 use Rattle.grammar.specs.Grammar.{spaced, Numbers, Arg, number, list, spelled_arg, SoundArg, Form}
@@ -14,7 +15,7 @@ use Rattle.tokens.specs.declared.token.Part.TheVariants.{Word as Lettered, Numbe
 use Rattle.grammar.proofs.Reading.{goes, through_letters, through_number, through_arg}
 
 -- `tail` in `[b, tail @ ..]`
-pub tail_is : (b : ℕ) (bs : List ℕ) → take (length (b ∷ bs) - 1) (drop 1 (b ∷ bs)) ≡ bs
+tail_is : (b : ℕ) (bs : List ℕ) → take (length (b ∷ bs) - 1) (drop 1 (b ∷ bs)) ≡ bs
 tail_is b bs = take_rest (b ∷ bs) 1
 
 -- a lone zero, or a number that begins with 1 to 9
@@ -59,7 +60,7 @@ counted (b ∷ bs) front back n some low high r p q =
     subst (λ x. C x back) (sym (p ∙ e)) (subst (C (b ∷ take n bs)) (sym (q ∙ f)) here)
 
 -- a byte that leads nowhere
-pub dies : (s : State) (b : ℕ) (bs : List ℕ) → step s b ≡ None → outcome s (b ∷ bs) ≡ stuck (length (b ∷ bs))
+dies : (s : State) (b : ℕ) (bs : List ℕ) → step s b ≡ None → outcome s (b ∷ bs) ≡ stuck (length (b ∷ bs))
 dies s b bs e = ap (λ o. elim o [ None ↦ stuck (suc (length bs)) | Some t ↦ outcome t bs ]) e
 
 -- after a number in a list
@@ -146,12 +147,12 @@ alike : (s t : State) (b : ℕ) (bs : List ℕ) → step s b ≡ step t b → ou
 alike s t b bs e = ap (λ (o : Option State). elim o [ None ↦ stuck (suc (length bs)) | Some t ↦ outcome t bs ]) e
 
 -- what the next byte can do no longer depends on how the word, or the number, began
-pub word_over : (w rest : List ℕ) → 1 ≤ length w → (is_in_range 97 122 (get_or rest 0 0) && ltb (length w) 8) ≡ false → outcome (word w) rest ≡ outcome (closed (record { head = w; args = [] })) rest
+word_over : (w rest : List ℕ) → 1 ≤ length w → (is_in_range 97 122 (get_or rest 0 0) && ltb (length w) 8) ≡ false → outcome (word w) rest ≡ outcome (closed (record { head = w; args = [] })) rest
 word_over [] rest some stop = absurd (omega arith)
 word_over (x ∷ w) [] some stop = refl
 word_over (x ∷ w) (b ∷ bs) some stop = alike (word (x ∷ w)) (closed (record { head = x ∷ w; args = [] })) b bs (cond-false _ _ _ stop)
 
-pub number_over : (f : Form) (ds rest : List ℕ) → (is_in_range 48 57 (get_or rest 0 0) && grows ds) ≡ false → outcome (digits (top f) ds) rest ≡ outcome (closed (with_arg f (number ds))) rest
+number_over : (f : Form) (ds rest : List ℕ) → (is_in_range 48 57 (get_or rest 0 0) && grows ds) ≡ false → outcome (digits (top f) ds) rest ≡ outcome (closed (with_arg f (number ds))) rest
 number_over f ds [] stop = refl
 number_over f ds (b ∷ bs) stop = alike (digits (top f) ds) (closed (with_arg f (number ds))) b bs (cond-false _ _ _ stop)
 
@@ -225,7 +226,7 @@ ends_of front rest line e =
     subst E e (simp length-append (omega arith), ap (λ l. l ++ rest) (take_at front rest _ (simp length-append (omega arith))))
 
 -- a part that a form holds as an argument is no word
-pub bytes_of_sound : (p : Part) → SoundArg (arg_of p) → spelled_arg (arg_of p) ≡ bytes_of p
+bytes_of_sound : (p : Part) → SoundArg (arg_of p) → spelled_arg (arg_of p) ≡ bytes_of p
 bytes_of_sound (Lettered w) h = absurd (omega (arith, h.1))
 bytes_of_sound (Figures ds) h = refl
 bytes_of_sound (Listed ns) h = refl
@@ -248,8 +249,19 @@ next_argument line all bs rest p before e u =
     )
 
 -- what `map_err` answers, of a result that says so much
-pub mapped : {T E D : Type 0} (P : T → Type 0) (Q : E → Type 0) (C : E → D → Type 0) (r : Result T E) (s : Result T D) → MatchResult r (λ x. s ≡ Ok x) (λ e. IsErrAnd s (C e)) → MatchResult r P Q → MatchResult s P (λ d. (e : E) × C e d × Q e)
+mapped : {T E D : Type 0} (P : T → Type 0) (Q : E → Type 0) (C : E → D → Type 0) (r : Result T E) (s : Result T D) → MatchResult r (λ x. s ≡ Ok x) (λ e. IsErrAnd s (C e)) → MatchResult r P Q → MatchResult s P (λ d. (e : E) × C e d × Q e)
 mapped P Q C (Ok x) (Ok y) e p = let same : y ≡ x = cc in subst P (sym same) p
 mapped P Q C (Ok x) (Err d) e p = let z : ◌≡◌ {A = ℕ} 0 1 = cc in absurd (omega arith)
 mapped P Q C (Err x) (Ok y) e p = absurd e
 mapped P Q C (Err x) (Err d) e p = (x, e, p)
+
+-- what is known of a result that was mapped and turned out well, or ill
+pub mapped_ok : {T E D : Type 0} (P : T → Type 0) (Q : E → Type 0) (C : E → D → Type 0) (r : Result T E) {s : Result T D} {x : T} → s ≡ Ok x → MatchResult r (λ y. s ≡ Ok y) (λ e. IsErrAnd s (C e)) → MatchResult r P Q → P x
+mapped_ok P Q C r was cases known = MatchResult-at_ok _ _ _ was (mapped P Q C r _ cases known)
+
+pub mapped_err : {T E D : Type 0} (P : T → Type 0) (Q : E → Type 0) (C : E → D → Type 0) (r : Result T E) {s : Result T D} {d : D} → s ≡ Err d → MatchResult r (λ y. s ≡ Ok y) (λ e. IsErrAnd s (C e)) → MatchResult r P Q → (e : E) × C e d × Q e
+mapped_err P Q C r was cases known = MatchResult-at_err _ _ _ was (mapped P Q C r _ cases known)
+
+-- what the exit of a `?` returns
+pub exit_is : {T E : Type 0} {e : E} {r : Result T E} → IsErrAnd r (λ d. d ≡ e) → r ≡ Err e
+exit_is h = let p = err_from_is_err_and _ h in p.1 ∙ ap Err p.2

@@ -1,11 +1,12 @@
 -- What the readers of a word, a number, a list and an argument say of the bytes before them.
 use Rattle.std.specs.Prelude.{◌≡◌, ℕ, ◌+◌, ◌-◌, ◌<◌, ◌≤◌, true, false, cond, ◌&&◌, List, [], ◌∷◌, ◌++◌, length, take, Some, None, Ok, Err, Option, Result, ◌==◌, slice_index, slice_index_or}
+use Rattle.std.specs.Borrow.{Bor}
 use Rattle.std.specs.Int.{is_in_range}
 use Rattle.grammar.specs.Grammar.{all_within, Word, Numeral, Numbers, spelled_arg, SoundArg, Form}
 use Rattle.grammar.specs.Machine.{top, inside, start, need, closed, with_arg, grows, whole, stuck, outcome}
 use Rattle.units.specs.declared.fault.Fault.{Fault}
 use Rattle.units.specs.declared.fault.Fault.TheVariants.{NotForm}
-use Rattle.tokens.specs.Tokens.{arg_of, letters_of, SoundPart, Placed}
+use Rattle.tokens.specs.Tokens.{arg_of, SoundPart, Placed}
 use Rattle.tokens.specs.declared.token.Part.{Part}
 use Rattle.tokens.specs.declared.token.Token.{Token}
 
@@ -58,9 +59,9 @@ NoHead bs left = (left ≤ length bs) × (outcome start bs ≡ stuck left)
 abbrev pub At : (line : List ℕ) (left : ℕ) → Fault → Type 0
 At line left e = e ≡ NotForm (length line - left)
 
--- what a line begins with
-abbrev pub First : (line : List ℕ) → Result Token Fault → (rest : List ℕ) → Type 0
-First line (Ok t) rest = Placed line t rest × (outcome start line ≡ outcome (closed (record { head = letters_of t.part; args = [] })) rest)
+-- what a line begins with: one byte, its bracket, and the letters of its word
+abbrev pub First : (line : List ℕ) → Result (Bor (List ℕ)) Fault → (rest : List ℕ) → Type 0
+First line (Ok letters) rest = (take 1 line ++ (letters.now ++ rest) ≡ line) × (outcome start line ≡ outcome (closed (record { head = letters.now; args = [] })) rest)
 First line (Err e) rest = (left : ℕ) × At line left e × (outcome start line ≡ stuck left)
 
 -- one more argument t of the form so far, which the bytes bs of the line go on from

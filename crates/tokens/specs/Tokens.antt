@@ -21,12 +21,6 @@ bytes_of (Word letters) = letters.now
 bytes_of (Number digits) = digits.now
 bytes_of (Listed numbers) = 40 ∷ (numbers.now ++ 41 ∷ [])
 
--- the letters of a word
-abbrev pub letters_of : Part → List ℕ
-letters_of (Word letters) = letters.now
-letters_of (Number digits) = []
-letters_of (Listed numbers) = []
-
 -- the token stands in the line at its place, before `rest`
 abbrev pub Placed : (line : List ℕ) → Token → (rest : List ℕ) → Type 0
 Placed line t rest = take t.place line ++ (bytes_of t.part ++ rest) ≡ line

@@ -4,6 +4,7 @@ ghost use Rattle.std.specs.Int.{is_in_range};
 ghost use Rattle.tokens.specs.Pieces.{Run, most_after, Counted, Shut, NoList, Argued, NoArgument, Headed, NoHead};
 
 use super::token::Part;
+use grammar::line::MOST_NUMBERS;
 
 /// How many bytes at the front are from `low` to `high`, counting at most `most`.
 fn run(rest: &[u8], low: u8, high: u8, most: usize) -> usize
@@ -54,9 +55,7 @@ fn numbers(rest: &[u8], most: usize) -> Result<usize, usize>
     requires { 0 < most }
     ensures { MatchResult result (Shut most rest.now) (NoList most rest.now) }
 {
-    let Some((digits, after)) = number(rest) else {
-        return Err(rest.len());
-    };
+    let (digits, after) = number(rest).ok_or(rest.len())?;
     if let [b')', ..] = after {
         return Ok(digits.len());
     }
@@ -70,7 +69,7 @@ fn numbers(rest: &[u8], most: usize) -> Result<usize, usize>
 fn list(rest: &[u8]) -> Result<usize, usize>
     ensures { MatchResult result (Shut 96 rest.now) (NoList 96 rest.now) }
 {
-    numbers(rest, 96)
+    numbers(rest, MOST_NUMBERS)
 }
 
 /// The number or the list at the front, and what follows it; or how many bytes are left where it goes wrong.

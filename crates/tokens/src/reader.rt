@@ -4,7 +4,7 @@ ghost use Rattle.tokens.specs.Ends.{Ends};
 ghost use Rattle.tokens.specs.Pieces.{At, First, Next};
 
 use super::parts::{argument, past_space, word};
-use super::token::{Part, Token};
+use super::token::Token;
 use units::fault::Fault;
 
 /// What is left to read of a line.
@@ -25,17 +25,14 @@ impl<'a> Reader<'a> {
         Reader { line, rest: line }
     }
 
-    /// The word that the line begins with, after its bracket.
-    pub fn word(&mut self) -> Result<Token<'a>, Fault>
+    /// The letters of the word that the line begins with, after its bracket.
+    pub fn word(&mut self) -> Result<&'a [u8], Fault>
         ensures line { self.new.line.now ≡ self.old.line.now }
         ensures first { First self.old.line.now result self.new.rest.now }
     {
         let (letters, after) = word(self.line).map_err(|left| not_form(self.line, left))?;
         self.rest = after;
-        Ok(Token {
-            part: Part::Word(letters),
-            place: 1,
-        })
+        Ok(letters)
     }
 
     /// The next argument, if the line does not end here.

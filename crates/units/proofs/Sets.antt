@@ -1,106 +1,32 @@
 -- What the operations on bits make of the numbers in a set.
-use Rattle.std.proofs.Common.{◌≡◌, ℕ, zero, suc, ◌+◌, ◌-◌, ◌*◌, ◌/◌, ◌%◌, ◌^◌, ◌<◌, ◌≤◌, max, Bool, true, false, cond, ◌&&◌, ◌||◌, eqb, ltb, leb, ◌⊎◌, Some, None, Option, sym, refl, ap, ◌∙◌, subst, inl, inr, ⊎_elim, add-zero, add-suc, mul_assoc, suc-mul, mul_comm, pow-suc, zero-add, div-one, add-one, arith}
-use Rattle.std.proofs.lemmas.Nat.{or_shr, pow-add, pow_pos, shl-shr, shr_high, shr-shr, or_lt, leading_top, shl_whole, shl_below}
-use Rattle.std.proofs.lemmas.Bool.{and_parts, cond_both, leb-true, and_from, and_left, and_right, cases_lt, cond-false, cond-true, le-leb, le-ltb, lt-leb, lt-ltb}
+use Rattle.std.proofs.Common.{◌≡◌, ℕ, zero, suc, ◌+◌, ◌-◌, ◌*◌, ◌/◌, ◌%◌, ◌^◌, ◌<◌, ◌≤◌, true, false, cond, ◌&&◌, ◌||◌, eqb, leb, Some, None, Option, sym, refl, ap, ◌∙◌, subst, inl, inr, add-zero, add-suc, pow-suc, zero-add, div-one, arith}
+use Rattle.std.proofs.lemmas.Nat.{pow_pos, or_lt, leading_top, shl_whole, shl_below}
+use Rattle.std.proofs.lemmas.Bool.{and_parts, cond_both, leb-true, and_from, cases_lt, cond-false, cond-true, le-leb}
 use Rattle.units.specs.Bits.{has, span, with_span, count_below, count_of, absent_from, first_absent_of, last_below, last_of}
-use lib.Bits.{bit_or, or_step, shifted_even}
+use lib.Bits.{bit_or}
 use Rattle.std.specs.Option.{SomeIff}
-use lib.Count.{under, ones, ones-le, ones_step, ones_in, count_trailing_zeros, count_leading_zeros, leading_of_zero}
+use lib.Count.{ones, ones-le, ones_step, ones_in, count_leading_zeros, leading_of_zero, trailing_of_zero}
+use Rattle.std.specs.Int.{bit_at, trailing_ones, w128}
 use Rattle.std.proofs.lemmas.Bool.Decides.{nat_tests}
+use Rattle.std.proofs.lemmas.Nat.Bits.{bit_at_or, bit_at-lt, bit_at_above, bit_at_ones, bit_at-trailing_ones, bit_at_mask_below, bit_at_mask_inside, bit_at_mask_above, ones_shr}
+use Rattle.std.proofs.Math.Pow.{high_ones}
 use native.Mathlib.Nat.{div-div-eq-div-mul, pow-le-pow_right, div-eq_of_lt, zero-div, div-eq_of_lt-le}
 
--- a digit of a union is set where one of the digits is
-either_set : (x y : ℕ) → x < 2 → y < 2 → eqb (max x y) 1 ≡ (eqb x 1 || eqb y 1)
-either_set zero zero h k = refl
-either_set zero (suc zero) h k = refl
-either_set (suc zero) zero h k = refl
-either_set (suc zero) (suc zero) h k = refl
-either_set (suc (suc x)) y h k = absurd (omega arith)
-either_set zero (suc (suc y)) h k = absurd (omega arith)
-either_set (suc zero) (suc (suc y)) h k = absurd (omega arith)
-
-pub has_or : (a b n : ℕ) → has (bit_or a b) n ≡ (has a n || has b n)
-has_or a b n =
-    let x = a / 2 ^ n in
-    let y = b / 2 ^ n in
-    let e : bit_or a b / 2 ^ n % 2 ≡ max (x % 2) (y % 2) = ap (λ z. z % 2) (or_shr a b n) ∙ omega (arith, or_step x y) in
-    ap (λ z. eqb z 1) e ∙ either_set (x % 2) (y % 2) (omega arith) (omega arith)
+has_or : (a b n : ℕ) → has (bit_or a b) n ≡ (has a n || has b n)
+has_or a b n = grind (arith, nat_tests, bit_at_or a b n, bit_at-lt a n, bit_at-lt b n)
 
 -- no number from k on is in a set below 2 ^ k
 pub has_past : (bits k n : ℕ) → bits < 2 ^ k → k ≤ n → has bits n ≡ false
-has_past bits k n h l =
-    let le : 2 ^ k ≤ 2 ^ n = pow-le-pow_right (omega arith) l in
-    let e : bits / 2 ^ n ≡ 0 = div-eq_of_lt (omega arith) in
-    ap (λ z. eqb (z % 2) 1) e
-
--- a shift leaves none of the numbers below it
-shifted_none : (x n d : ℕ) → has (x * 2 ^ (n + suc d)) n ≡ false
-shifted_none x n d =
-    let e : x * 2 ^ (n + suc d) / 2 ^ n ≡ x * 2 ^ suc d =
-    ap (λ z. z / 2 ^ n) (ap (λ z. x * z) (pow-add 2 n (suc d) ∙ mul_comm (2 ^ n) (2 ^ suc d)) ∙ sym (mul_assoc x (2 ^ suc d) (2 ^ n))) ∙ shl-shr (x * 2 ^ suc d) n in
-    ap (λ z. eqb z 1) (ap (λ z. z % 2) e ∙ shifted_even x d)
-
-has_run_before : (x a n : ℕ) → n < a → has (x * 2 ^ a) n ≡ false
-has_run_before x a n h =
-    let e : a ≡ n + suc (a - n - 1) = omega arith in
-    rw e (shifted_none x n (a - n - 1))
-
-sub_one_mul : (x y : ℕ) → 0 < x → (x - 1) * y + y ≡ x * y
-sub_one_mul zero y h = elim h [ ]
-sub_one_mul (suc x) y h = let e : suc x - 1 ≡ x = omega arith in rw e (sym (suc-mul x y))
-
--- a row of m ones without its j lowest
-ones_shr : (m j : ℕ) → j ≤ m → (2 ^ m - 1) / 2 ^ j ≡ 2 ^ (m - j) - 1
-ones_shr m j h =
-    let d = m - j in
-    let e : m ≡ d + j = omega arith in
-    let p : 2 ^ m ≡ 2 ^ d * 2 ^ j = ap (λ z. 2 ^ z) e ∙ pow-add 2 d j in
-    let split : 2 ^ m - 1 ≡ (2 ^ d - 1) * 2 ^ j + (2 ^ j - 1) =
-    omega (arith, p, sub_one_mul (2 ^ d) (2 ^ j) (pow_pos d), pow_pos j, pow_pos d) in
-    ap (λ z. z / 2 ^ j) split ∙ shr_high (2 ^ d - 1) j (2 ^ j - 1) (omega (arith, pow_pos j))
-
--- the digit j of a row of m ones
-ones_at : (m j : ℕ) → (2 ^ m - 1) / 2 ^ j % 2 ≡ cond (ltb j m) 1 0
-ones_at m j = ⊎_elim inside outside (cases_lt j m)
-  where
-    inside : j < m → (2 ^ m - 1) / 2 ^ j % 2 ≡ cond (ltb j m) 1 0
-    inside h =
-        let d = m - j - 1 in
-        let e : m - j ≡ suc d = omega arith in
-        let odd : (2 ^ suc d - 1) % 2 ≡ 1 = omega (arith, pow-suc 2 d, pow_pos d) in
-        ap (λ z. z % 2) (ones_shr m j (omega arith) ∙ ap (λ z. 2 ^ z - 1) e) ∙ odd ∙ sym (cond-true (ltb j m) 1 0 (lt-ltb j m h))
-
-    outside : m ≤ j → (2 ^ m - 1) / 2 ^ j % 2 ≡ cond (ltb j m) 1 0
-    outside h =
-        let le : 2 ^ m ≤ 2 ^ j = pow-le-pow_right (omega arith) h in
-        let e : (2 ^ m - 1) / 2 ^ j ≡ 0 = div-eq_of_lt (omega (arith, pow_pos m)) in
-        ap (λ z. z % 2) e ∙ sym (cond-false (ltb j m) 1 0 (le-ltb j m h))
-
-digit_set : (d : ℕ) → d < 2 → cond (eqb d 1) 1 0 ≡ d
-digit_set zero h = refl
-digit_set (suc zero) h = refl
-digit_set (suc (suc d)) h = absurd (omega arith)
-
-set_digit : (b : Bool) → eqb (cond b 1 0) 1 ≡ b
-set_digit true = refl
-set_digit false = refl
-
-has_run_after : (m a n : ℕ) → a ≤ n → has ((2 ^ m - 1) * 2 ^ a) n ≡ ltb (n - a) m
-has_run_after m a n h =
-    let e : n ≡ a + (n - a) = omega arith in
-    let q : (2 ^ m - 1) * 2 ^ a / 2 ^ n ≡ (2 ^ m - 1) / 2 ^ (n - a) =
-    ap (λ z. (2 ^ m - 1) * 2 ^ a / 2 ^ z) e ∙ sym (shr-shr ((2 ^ m - 1) * 2 ^ a) a (n - a)) ∙ ap (λ z. z / 2 ^ (n - a)) (shl-shr (2 ^ m - 1) a) in
-    ap (λ z. eqb (z % 2) 1) q ∙ ap (λ z. eqb z 1) (ones_at m (n - a)) ∙ set_digit (ltb (n - a) m)
+has_past bits k n h l = ap (λ z. eqb z 1) (bit_at_above bits k n h l)
 
 -- the numbers of a span
-pub has_span : (from to n : ℕ) → from ≤ to → has (span from to) n ≡ (leb from n && leb n to)
-has_span from to n h = ⊎_elim
-    (λ (l : n < from). has_run_before (2 ^ (to - from + 1) - 1) from n l ∙ sym (and_left _ _ (lt-leb from n l)))
-    (λ (l : from ≤ n). has_run_after (to - from + 1) from n l ∙ same l)
-    (cases_lt n from)
-  where
-    same : from ≤ n → ltb (n - from) (to - from + 1) ≡ (leb from n && leb n to)
-    same l = grind (arith, nat_tests)
+has_span : (from to n : ℕ) → from ≤ to → has (span from to) n ≡ (leb from n && leb n to)
+has_span from to n h =
+    let mask : span from to ≡ 2 ^ (to + 1) - 2 ^ from = sym (high_ones (to - from + 1) from) ∙ ap (λ j. 2 ^ j - 2 ^ from) (omega arith) in
+    ap (λ x. has x n) mask ∙ grind (arith, nat_tests, bit_at_mask_below from (to + 1) n, bit_at_mask_inside from (to + 1) n, bit_at_mask_above from (to + 1) n)
+
+digit_set : (d : ℕ) → d < 2 → cond (eqb d 1) 1 0 ≡ d
+digit_set d h = grind (arith, nat_tests)
 
 -- how many: the numbers below k, and the digits from k on
 counted : (bits k : ℕ) → ones bits ≡ count_below bits k + ones (bits / 2 ^ k)
@@ -118,44 +44,24 @@ count_ones_count bits h =
     let e : bits / 2 ^ 128 ≡ 0 = div-eq_of_lt h in
     counted bits 128 ∙ ap (λ z. count_below bits 128 + ones z) e ∙ add-zero _
 
-half_of : (bits n : ℕ) → bits / 2 ^ n / 2 ≡ bits / 2 ^ (n + 1)
-half_of bits n = div-div-eq-div-mul bits (2 ^ n) 2 ∙ ap (λ z. bits / z) (sym (pow-suc 2 n) ∙ ap (λ z. 2 ^ z) (sym (add-one n)))
+-- t ends the search where each number before it is in the set, and t is not, if it is looked at
+absent_at : (bits t : ℕ) → ((i : ℕ) → i < t → bit_at bits i ≡ 1) → (n m : ℕ) → n ≤ t → t ≤ n + m → (t < n + m → bit_at bits t ≡ 0) → absent_from bits n m ≡ t
+unfolding absent_from
+absent_at bits t set n zero from upto clear = omega arith
+absent_at bits t set n (suc m) from upto clear = elim (cases_lt n t) [
+  | inl l ↦ cond-true _ _ _ (ap (λ z. eqb z 1) (set n l)) ∙ absent_at bits t set (n + 1) m (omega arith) (omega arith) (λ q. clear (omega arith))
+  | inr l ↦ let here : n ≡ t = omega arith in cond-false _ _ _ (ap (λ z. eqb (bit_at bits z) 1) here ∙ ap (λ z. eqb z 1) (clear (omega arith))) ∙ here
+]
 
--- the ones from the number n on are the zeros of the complement, where the digits from n on are below 2 ^ k
-module _ (bits : ℕ) where
-  tail : ℕ → ℕ → ℕ
-  tail n k = count_trailing_zeros k (2 ^ k - 1 - bits / 2 ^ n)
-
-  one_more : (n k : ℕ) → bits / 2 ^ n < 2 ^ suc k → tail n (suc k) ≡ cond (has bits n) (suc (tail (n + 1) k)) 0
-  unfolding count_trailing_zeros tail
-  one_more n k h =
-      let y = bits / 2 ^ n in
-      let x = 2 ^ suc k - 1 - y in
-      let double = pow-suc 2 k in
-      let half : x / 2 ≡ 2 ^ k - 1 - bits / 2 ^ (n + 1) = rw (← half_of bits n) (omega arith) in
-      let rest : count_trailing_zeros k (x / 2) ≡ tail (n + 1) k = ap (count_trailing_zeros k) half in
-      ap (under (x % 2)) rest ∙ turn (y % 2) (x % 2) (tail (n + 1) k) (omega arith)
-    where
-      turn : (d c t : ℕ) → c + d ≡ 1 → under c t ≡ cond (eqb d 1) (suc t) 0
-      turn zero c t h = let e : c ≡ 1 = omega arith in ap (λ z. under z t) e
-      turn (suc zero) c t h = let z : c ≡ 0 = omega arith in ap (λ z. under z t) z
-      turn (suc (suc d)) c t h = absurd (omega arith)
-
-  absent : (n k : ℕ) → bits / 2 ^ n < 2 ^ k → n + tail n k ≡ absent_from bits n k
-  unfolding absent_from tail count_trailing_zeros
-  absent n zero h = add-zero n
-  absent n (suc k) h =
-      let below : bits / 2 ^ (n + 1) < 2 ^ k = rw (← half_of bits n) (omega (arith, pow-suc 2 k)) in
-      ap (λ z. n + z) (one_more n k h) ∙ go (has bits n) (absent (n + 1) k below)
-    where
-      go : (b : Bool) → n + 1 + tail (n + 1) k ≡ absent_from bits (n + 1) k → n + cond b (suc (tail (n + 1) k)) 0 ≡ cond b (absent_from bits (n + 1) k) n
-      go true ih = omega (arith, ih)
-      go false ih = add-zero n
-
-pub trailing_absent : (bits : ℕ) → bits < 2 ^ 128 → count_trailing_zeros 128 (2 ^ 128 - 1 - bits) ≡ first_absent_of bits
-unfolding first_absent_of tail
-trailing_absent bits h =
-    sym (zero-add _) ∙ ap (λ z. 0 + count_trailing_zeros 128 (2 ^ 128 - 1 - z)) (sym (div-one bits)) ∙ absent bits 0 128 (rw div-one h)
+pub trailing_absent : (bits : ℕ) → bits < 2 ^ 128 → trailing_ones w128 bits ≡ first_absent_of bits
+unfolding first_absent_of
+trailing_absent bits h = elim (cases_lt (bits + 1) (2 ^ 128)) [
+  | inl l ↦ let t = bit_at-trailing_ones w128 bits l in sym (absent_at bits _ t.2 0 128 (omega arith) (omega (arith, t.0)) (λ _. t.1))
+  | inr l ↦
+      let full : bits ≡ 2 ^ 128 - 1 = omega arith in
+      let all : (i : ℕ) → i < 128 → bit_at bits i ≡ 1 = λ i q. ap (λ x. bit_at x i) full ∙ bit_at_ones 128 i q in
+      ap (trailing_ones w128) full ∙ trailing_of_zero 128 ∙ sym (absent_at bits 128 all 0 128 (omega arith) (omega arith) (λ q. absurd (omega arith)))
+]
 
 -- the largest number of a set is j where it lies from 2 ^ j on and below 2 ^ (j + 1)
 last_at : (bits j d : ℕ) → 2 ^ j ≤ bits → bits < 2 ^ suc j → last_below bits (suc (j + d)) ≡ Some j
@@ -194,28 +100,14 @@ shifted_span from to h l =
     let row : (2 ^ 128 - 1) / 2 ^ (127 - (to - from)) ≡ 2 ^ m - 1 = ones_shr 128 (127 - (to - from)) (omega arith) ∙ ap (λ z. 2 ^ z - 1) width in
     ap (λ z. (z * 2 ^ from) % 2 ^ 128) row ∙ shl_whole (2 ^ m - 1) m from 128 (omega (arith, pow_pos m)) (omega arith)
 
-or_none : (b : Bool) → b ≡ (b || false)
-or_none true = refl
-or_none false = refl
-
 pub grown : (bits from to : ℕ) → from ≤ to → to < 128 → with_span bits from to ≡ bit_or bits (span from to)
 grown bits from to h l = cond-true _ _ _ (and_from _ _ (le-leb from to h) (le-leb to 127 (omega arith)))
 
 pub has_with_span : (bits from to k : ℕ) → has (with_span bits from to) k ≡ (has bits k || (leb to 127 && (leb from k && leb k to)))
-has_with_span bits from to k = ⊎_elim
-    (λ (p : to < 128). ⊎_elim
-    (λ (q : to < from). unchanged (and_left _ _ (lt-leb from to q)) (and_right (leb to 127) _ (apart (cases_lt k from) q)))
-    (λ (q : from ≤ to). ap (λ z. has z k) (grown bits from to q p) ∙ has_or bits (span from to) k ∙ ap (λ z. has bits k || z) (has_span from to k q ∙ sym (ap (λ z. z && (leb from k && leb k to)) (le-leb to 127 (omega arith)))))
-    (cases_lt to from))
-    (λ (p : 128 ≤ to). unchanged (and_right (leb from to) _ (lt-leb to 127 (omega arith))) (and_left _ _ (lt-leb to 127 (omega arith))))
-    (cases_lt to 128)
-  where
-    unchanged : (leb from to && leb to 127) ≡ false → (leb to 127 && (leb from k && leb k to)) ≡ false → has (with_span bits from to) k ≡ (has bits k || (leb to 127 && (leb from k && leb k to)))
-    unchanged t u = ap (λ z. has z k) (cond-false _ _ _ t) ∙ or_none (has bits k) ∙ ap (λ z. has bits k || z) (sym u)
-
-    apart : (k < from) ⊎ (from ≤ k) → to < from → (leb from k && leb k to) ≡ false
-    apart (inl l) q = and_left _ _ (lt-leb from k l)
-    apart (inr l) q = and_right (leb from k) _ (lt-leb k to (omega arith))
+has_with_span bits from to k =
+    cond_both (leb from to && leb to 127) _ _ (λ x. has x k ≡ (has bits k || (leb to 127 && (leb from k && leb k to))))
+    (λ t. has_or bits (span from to) k ∙ ap (λ z. has bits k || z) (has_span from to k (leb-true from to (and_parts (leb from to) (leb to 127) t).0) ∙ grind (arith, nat_tests)))
+    (λ f. grind (arith, nat_tests))
 
 -- a set of numbers below k that gets more of them
 pub with_span_low : (k bits from to : ℕ) → bits < 2 ^ k → to < k → with_span bits from to < 2 ^ k

@@ -1,3 +1,4 @@
 pub mod Bits
 pub mod Faults
+pub mod Refusals
 pub mod Stations

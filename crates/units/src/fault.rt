@@ -6,6 +6,7 @@ ghost use Rattle.units.specs.declared.fault.Fault.TheVariants.{NoMemory};
 use crate::station::Phase;
 use std::alloc::AllocError;
 use std::fmt;
+use thiserror::Error;
 
 /// A page that a caller lends with a call, by the number under which a refusal names it.
 #[derive(Clone, Copy, PartialEq, Eq, Debug)]
@@ -16,62 +17,89 @@ pub enum Page {
     Accounts = 4,
 }
 
-/// A cause of refusal, with what the answer says of it.
-#[derive(Clone, Copy, Debug)]
+/// A cause of refusal, with what the answer says of it. Its text tells a person what is wrong.
+#[derive(Clone, Copy, Debug, Error)]
 pub enum Fault {
     /// There is no memory left.
+    #[error("there is no memory left")]
     NoMemory,
     /// Not 1 to 16 stations, or not as many kinds as counts.
+    #[error("{kinds} kinds and {counts} counts are not those of 1 to 16 stations")]
     StationCount { kinds: u64, counts: u64 },
     /// A kind above 1, or not 1 to 32 generators.
+    #[error("station {station} is of no kind, or has not 1 to 32 generators")]
     BadStation { station: u64 },
     /// Not as many installed powers as the counts add up to.
+    #[error("{given} installed powers are given for {needed} generators")]
     InstalledCount { given: u64, needed: u64 },
     /// An installed power outside 1,000 to 200,000 kW.
+    #[error("generator {generator} has {kw} kW installed, which is not 1000 to 200000")]
     InstalledRange { generator: u64, kw: u64 },
     /// A page is too short.
+    #[error("the page {page:?} is too short: {needed} entries are needed")]
     ShortPage { page: Page, needed: u64 },
     /// A rate above 4,000 paise per kWh.
+    #[error("the rate {rate} is above 4000 paise per kWh")]
     HighRate { rate: u64 },
     /// A penalty over a ceiling above 3,333, or with a capacity above 6,400,000 kW.
+    #[error("no penalty may stand on {value}: a ceiling is at most 3333, a capacity at most 6400000 kW")]
     BadPenalty { value: u64 },
     /// The page for an answer or a line is too short.
+    #[error("a page of {length} bytes is too short for the text")]
     ShortOutput { length: u64 },
     /// A line over 1,024 bytes.
+    #[error("the line is over 1024 bytes")]
     LongLine { length: u64 },
     /// Not a form: the length of the longest start that begins some form.
+    #[error("not a form behind its first {start} bytes")]
     NotForm { start: u64 },
     /// No call has this head.
+    #[error("no call has this head")]
     UnknownHead,
     /// An argument is missing, surplus or of the wrong sort: its position from 1.
+    #[error("argument {position} is missing, surplus or of the wrong sort")]
     BadArgument { position: u64 },
     /// No such station or generator.
+    #[error("there is no station or generator {number}")]
     NoSuchNumber { number: u64 },
     /// The station takes no such call in its phase.
+    #[error("station {station} takes no such call in its phase, {phase:?}")]
     WrongPhase { station: u64, phase: Phase },
     /// A block above 95, or the first after the last.
+    #[error("{from} to {to} are no blocks of the day in their order")]
     BadBlocks { from: u64, to: u64 },
     /// A notice above block 92, or outside the blocks in which a solar station gives notice.
+    #[error("no notice may be given in block {notice}")]
     BadNotice { notice: u64 },
     /// Not as many values as the revision has blocks.
+    #[error("{given} values are given for {needed} blocks")]
     ValueCount { given: u64, needed: u64 },
     /// A value above its limit: its position from 0.
+    #[error("the value at position {position} is above {limit}")]
     HighValue { position: u64, limit: u64 },
     /// Not the number of the next revision.
+    #[error("revision {given} is not the next, which is {next}")]
     RevisionNumber { given: u64, next: u64 },
     /// A slot that is not later than the last revision's.
+    #[error("slot {slot} is not later than the last revision's, {last}")]
     UsedSlot { slot: u64, last: u64 },
     /// A block without a schedule at issue.
+    #[error("station {station} has no schedule in block {block}")]
     Unfiled { station: u64, block: u64 },
     /// A reading that the result needs is missing.
+    #[error("generator {generator} has no reading in block {block}")]
     MissingReading { generator: u64, block: u64 },
     /// An amount of 0, or above 10^12 paise.
+    #[error("station {station} asks for {amount} paise, which is not 1 to 1000000000000")]
     BadAmount { station: u64, amount: u64 },
     /// The cash would pass 10^15 paise.
+    #[error("the pool's {cash} paise and what station {station} pays would pass 1000000000000000")]
     FullCash { station: u64, cash: u64 },
     /// A draw above minus the due.
+    #[error("station {station} may draw {available} paise and no more")]
     DrawAboveDue { station: u64, available: u64 },
     /// A draw above the cash.
+    #[error("the pool holds {cash} paise, less than station {station} asks for")]
     DrawAboveCash { station: u64, cash: u64 },
 }
 

@@ -1,6 +1,8 @@
 //! What kind a station is of, and how far its day has come.
 ghost use Rattle.units.specs.Stations.{IsKindNumbered};
 
+use thiserror::Error;
+
 /// What drives a station.
 #[derive(Clone, Copy, PartialEq, Eq, Debug)]
 pub enum Kind {
@@ -9,7 +11,8 @@ pub enum Kind {
 }
 
 /// A number that names no kind of station.
-#[derive(Clone, Copy, PartialEq, Eq, Debug)]
+#[derive(Clone, Copy, PartialEq, Eq, Debug, Error)]
+#[error("there is no kind of station {0}")]
 pub struct UnknownKind(pub u64);
 
 impl TryFrom<u64> for Kind {

@@ -1,7 +1,6 @@
 //! One day of one wind station through typed calls: each answer, then the station's statement.
 #![tactic(auto)]
 
-use anyhow::anyhow;
 use book::{Book, Pages, Statement};
 use posting::account::Account;
 use share::key::UnitsKey;
@@ -81,14 +80,10 @@ fn show_answers(rt: &impl Print, answers: &[Result<(), Fault>]) -> io::Result<()
     for answer in answers {
         match answer {
             Ok(()) => println!(rt; "(ok)")?,
-            Err(fault) => show_refusal(rt, fault)?,
+            Err(fault) => rt.println(fault.refusal())?,
         }
     }
     Ok(())
-}
-
-fn show_refusal(rt: &impl Print, fault: &Fault) -> io::Result<()> {
-    rt.println(fault.refusal())
 }
 
 fn show_statement(rt: &impl Print, statement: &Statement) -> io::Result<()> {
@@ -101,8 +96,7 @@ fn show_statement(rt: &impl Print, statement: &Statement) -> io::Result<()> {
         ..
     } = statement;
     println!(rt; "(station {station} {code} {charges} {due} {cash})")?;
-    for (k, account) in statement.accounts.iter().enumerate() {
-        let generator = statement.first.saturating_add(k);
+    for (generator, account) in (statement.first..).zip(statement.accounts) {
         let Account { energy, money, .. } = account;
         println!(rt; "(generator {generator} {energy} {money})")?;
     }
@@ -116,9 +110,7 @@ fn make(
     pages: &mut Pages,
     calls: &[Call],
 ) -> anyhow::Result<()> {
-    let Ok(answers) = book.replay(rt.alloc(), pages, calls) else {
-        return Err(anyhow!("no memory for the answers"));
-    };
+    let answers = book.replay(rt.alloc(), pages, calls)?;
     show_answers(rt, &answers)?;
     Ok(())
 }
@@ -126,16 +118,11 @@ fn make(
 fn run(rt: &HostRuntime) -> anyhow::Result<()> {
     let heap = rt.alloc();
     let mut pages = Pages::new(heap, 1, 2)?;
-    let Ok(mut book) = Book::open(heap, Banded::From10, UnitsKey, &opening(heap)?, &mut pages)
-    else {
-        return Err(anyhow!("the book was not opened"));
-    };
+    let mut book = Book::open(heap, Banded::From10, UnitsKey, &opening(heap)?, &mut pages)?;
     make(rt, &mut book, &mut pages, &until_settled(heap)?)?;
     make(rt, &mut book, &mut pages, &after_settlement(heap)?)?;
-    match book.statement(&pages, 0) {
-        Ok(statement) => show_statement(rt, &statement)?,
-        Err(fault) => show_refusal(rt, &fault)?,
-    }
+    let statement = book.statement(&pages, 0)?;
+    show_statement(rt, &statement)?;
     Ok(())
 }
 

@@ -1,6 +1,6 @@
 //! What every call tests first: the pages, the station or generator, and the station's phase.
 ghost use Rattle.std.specs.Prelude.{◌≡◌, ◌≤◌, position};
-ghost use Rattle.book.specs.Refusals.{Checks};
+ghost use Rattle.units.specs.Refusals.{Checks};
 ghost use Rattle.book.specs.States.{admission, Admitted, Fit, Found, generator_admission, generator_presence, lengths_in, no_station_of, Owned, Owner, presence, reaches, Room, short_for, short_page, short_pages, state, StationIs};
 
 use super::Book;
@@ -52,10 +52,10 @@ impl<T: Tariff, K: Key> Book<T, K> {
     pub(crate) fn station(&self, t: u64) -> Result<Station, Fault>
         ensures { Checks (no_station_of self.now.stations.items t) (StationIs self.now.stations.items self.now.cash t) result }
     {
-        match self.stations.get(t as usize) {
-            Some(station) => Ok(*station),
-            None => Err(Fault::NoSuchNumber { number: t }),
-        }
+        self.stations
+            .get(t as usize)
+            .copied()
+            .ok_or(Fault::NoSuchNumber { number: t })
     }
 
     /// The pages fit, and there is such a station.

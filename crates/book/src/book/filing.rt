@@ -3,7 +3,7 @@ ghost use Rattle.book.specs.Calls.{closing, filing, issuing, Makes, revising};
 
 use super::Book;
 use crate::checks::in_blocks;
-use crate::pages::Pages;
+use crate::pages::{Pages, entries};
 use crate::station::Action;
 use share::key::Key;
 use tariff::tariff::Tariff;
@@ -26,8 +26,7 @@ impl<T: Tariff, K: Key> Book<T, K> {
         let kw = in_blocks(from, to, STATION_KW, kw)?;
         station.file(from as u8, to as u8);
         self.put(t as usize, station, self.cash);
-        let start = BLOCKS * t as usize + from as usize;
-        pages.schedules[start..start + (to - from + 1) as usize].fill(kw);
+        pages.schedules[entries(t, from, to)].fill(kw);
         Ok(())
     }
 
@@ -62,8 +61,7 @@ impl<T: Tariff, K: Key> Book<T, K> {
         let (slot, schedule) = station.revision(number, notice, values)?;
         station.revise(slot);
         self.put(t as usize, station, self.cash);
-        let start = BLOCKS * t as usize + notice as usize + 3;
-        pages.schedules[start..start + schedule.len()].copy_from_slice(&schedule);
+        pages.schedules[entries(t, notice + 3, 95)].copy_from_slice(&schedule);
         Ok(())
     }
 

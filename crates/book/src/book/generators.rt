@@ -3,12 +3,12 @@ ghost use Rattle.book.specs.Calls.{declaring, Makes, metering};
 
 use super::Book;
 use crate::checks::in_blocks;
-use crate::pages::Pages;
+use crate::pages::{Pages, entries};
 use crate::station::Action;
 use share::key::Key;
 use tariff::tariff::Tariff;
 use units::fault::Fault;
-use units::limits::{BLOCKS, GENERATOR_KW};
+use units::limits::GENERATOR_KW;
 
 impl<T: Tariff, K: Key> Book<T, K> {
     /// A capacity is declared for the generator, in the blocks `from` to `to`.
@@ -24,8 +24,7 @@ impl<T: Tariff, K: Key> Book<T, K> {
     {
         self.admit_generator(pages, generator, Action::Declare)?;
         let kw = in_blocks(from, to, pages.installed(generator as usize), kw)?;
-        let start = BLOCKS * generator as usize + from as usize;
-        pages.capacities[start..start + (to - from + 1) as usize].fill(kw);
+        pages.capacities[entries(generator, from, to)].fill(kw);
         Ok(())
     }
 
@@ -42,8 +41,7 @@ impl<T: Tariff, K: Key> Book<T, K> {
     {
         self.admit_generator(pages, generator, Action::Read)?;
         let kw = in_blocks(from, to, GENERATOR_KW, kw)?;
-        let start = BLOCKS * generator as usize + from as usize;
-        pages.readings[start..start + (to - from + 1) as usize].fill(Some(kw));
+        pages.readings[entries(generator, from, to)].fill(Some(kw));
         Ok(())
     }
 }

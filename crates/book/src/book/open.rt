@@ -1,6 +1,6 @@
 //! Opens a book.
 ghost use Rattle.book.specs.Opening.{Openable, opening_fault, Opens};
-ghost use Rattle.book.specs.Refusals.{Checks};
+ghost use Rattle.units.specs.Refusals.{Checks};
 
 use super::Book;
 use super::admission::fitting_pages;

@@ -1,10 +1,12 @@
 //! Questions. They alter nothing.
 ghost use Rattle.std.specs.Prelude.{◌≡◌, ◌≤◌, slice_index_or};
 ghost use Rattle.book.specs.Questions.{account_answer, charge_answer, charge_refusal, progress_of, share_answer, share_refusal, Stated};
-ghost use Rattle.book.specs.Refusals.{Checks};
+ghost use Rattle.units.specs.Refusals.{Checks};
+ghost use Rattle.book.specs.Sheets.{sheet_in};
 ghost use Rattle.book.specs.Sound.{slots_of};
 ghost use Rattle.book.specs.States.{generator_presence, no_station_of, nobody, presence, state};
 ghost use Rattle.book.specs.Stations.{due_of};
+ghost use Rattle.posting.specs.Sheets.{sheet_of};
 
 use super::Book;
 use crate::answers::{Progress, Statement};
@@ -12,6 +14,8 @@ use crate::checks::block_read;
 use crate::pages::{Pages, day};
 use crate::station::Action;
 use posting::amounts::Amounts;
+use posting::day::Day;
+use posting::members::Members;
 use share::key::Key;
 use tariff::tariff::Tariff;
 use units::fault::Fault;
@@ -40,19 +44,23 @@ impl<T: Tariff, K: Key> Book<T, K> {
         self.cash
     }
 
+    /// The day of station `t` on the pages.
+    fn day_of<'a>(&'a self, pages: &'a Pages, t: u8, members: Members) -> Day<'a, T, K>
+        ensures tariff { result.tariff.now ≡ self.now.tariff }
+        ensures station { result.station ≡ t }
+        ensures members { result.members ≡ members }
+        ensures sheet { sheet_of result.pages pages.now.accounts.items ≡ sheet_in pages.now }
+    {
+        day(&self.tariff, &self.key, t, members, pages.lent())
+    }
+
     /// The charge of station `t` for the block, and its energy deviation.
     pub fn charge(&self, pages: &Pages, t: u64, block: u64) -> Result<Amounts, Fault>
         ensures { Checks (charge_refusal t block (state self.now pages.now)) (λ a. a ≡ charge_answer (T.Tariff.charge_of self.now.tariff) t block (state self.now pages.now)) result }
     {
         let station = self.admit(pages, t, Action::Ask)?;
         block_read(&pages.readings, station.members, block)?;
-        let day = day(
-            &self.tariff,
-            &self.key,
-            t as u8,
-            station.members,
-            pages.lent(),
-        );
+        let day = self.day_of(pages, t as u8, station.members);
         Ok(day.figures(&pages.accounts, block as u8))
     }
 
@@ -62,13 +70,7 @@ impl<T: Tariff, K: Key> Book<T, K> {
     {
         let (t, station) = self.admit_generator(pages, generator, Action::Ask)?;
         block_read(&pages.readings, station.members, block)?;
-        let day = day(
-            &self.tariff,
-            &self.key,
-            t as u8,
-            station.members,
-            pages.lent(),
-        );
+        let day = self.day_of(pages, t as u8, station.members);
         let shares = day.shares(&pages.accounts, block as u8);
         let k = generator as usize - station.members.first();
         Ok(shares.each[k])
@@ -91,7 +93,6 @@ impl<T: Tariff, K: Key> Book<T, K> {
         ensures { Checks (presence t (state self.now pages.now)) (Stated (T.Tariff.code_of self.now.tariff) t (state self.now pages.now)) result }
     {
         let station = self.find_station(pages, t)?;
-        let first = station.members.first();
         let accounts = pages.accounts.as_slice();
         Ok(Statement {
             station: t,
@@ -99,8 +100,8 @@ impl<T: Tariff, K: Key> Book<T, K> {
             charges: station.charges,
             due: station.due(),
             cash: self.cash,
-            first,
-            accounts: &accounts[first..station.members.end()],
+            first: station.members.first(),
+            accounts: &accounts[station.members.numbers()],
         })
     }
 }

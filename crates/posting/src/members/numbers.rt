@@ -3,6 +3,7 @@ ghost use Rattle.std.specs.Prelude.{◌≡◌, ◌+◌, MatchOption};
 ghost use Rattle.posting.specs.Members.{Numbered};
 
 use crate::members::Members;
+use std::ops::Range;
 use units::limits::{GENERATORS, STATIONS};
 
 /// The number of the first generator of the last station, at most.
@@ -38,5 +39,14 @@ impl Members {
     {
         let Members { first, count } = *self;
         first + count
+    }
+
+    /// The numbers of the generators.
+    pub fn numbers(&self) -> Range<usize>
+        ensures start { result.start ≡ self.now.first }
+        ensures end { result.end ≡ self.now.first + self.now.count }
+    {
+        let Members { first, count } = *self;
+        first..first + count
     }
 }

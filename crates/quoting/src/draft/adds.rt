@@ -1,12 +1,13 @@
 //! A draft takes one line after another, and becomes a request.
-ghost use Rattle.std.specs.Prelude.{◌≡◌, ◌<◌, ◌≤◌, Some, None, MatchResult};
+ghost use Rattle.std.specs.Prelude.{◌≡◌, ◌<◌, ◌≤◌, MatchResult};
 ghost use Rattle.quoting.specs.Choices.{name_of};
 ghost use Rattle.quoting.specs.Drafts.{Added, Made, given_in};
 ghost use Rattle.quoting.specs.Steps.{ending, nothing};
 ghost use Rattle.quoting.specs.Taking.{Took};
-ghost use Rattle.quoting.specs.Tests.{first, load_tests, rate_tests};
+ghost use Rattle.quoting.specs.Tests.{load_tests, rate_tests};
 ghost use Rattle.quoting.specs.declared.complaint.Cause.TheVariants as cause;
 ghost use Rattle.quoting.specs.declared.entry.Entry.TheVariants as entries;
+ghost use Rattle.units.specs.Refusals.{Checks, first};
 
 use crate::choice::{KeyChoice, TariffChoice};
 use crate::complaint::{Cause, Quantity};
@@ -32,7 +33,7 @@ fn at_most(quantity: Quantity, value: u32, limit: u32) -> Result<(), Cause>
 
 /// A tariff whose rates are within their limits.
 fn priced(name: TariffName) -> Result<TariffChoice, Cause>
-    ensures { MatchResult result (λ t. (first (rate_tests name) ≡ None) × (name_of t ≡ name)) (λ e. first (rate_tests name) ≡ Some e) }
+    ensures { Checks (first (rate_tests name)) (λ t. name_of t ≡ name) result }
 {
     match name {
         TariffName::Bands(bands) => Ok(TariffChoice::Bands(bands)),
@@ -47,7 +48,7 @@ fn priced(name: TariffName) -> Result<TariffChoice, Cause>
 
 /// A generator whose numbers are within their limits.
 fn metered(load: Load) -> Result<Generator, Cause>
-    ensures { MatchResult result (λ g. (first (load_tests load) ≡ None) × (g.load ≡ load)) (λ e. first (load_tests load) ≡ Some e) }
+    ensures { Checks (first (load_tests load)) (λ g. g.load ≡ load) result }
 {
     if load.installed < LEAST_INSTALLED {
         return Err(Cause::Under {
@@ -143,7 +144,7 @@ impl Draft {
     /// The request, if nothing is missing. Where no tariff is named it is that of bands from 10 percent, and where
     /// no key is named it is that of units.
     pub fn finish(self) -> Result<Request, Cause>
-        ensures { MatchResult result (λ q. (first (ending (given_in self)) ≡ None) × Made (given_in self) q) (λ e. first (ending (given_in self)) ≡ Some e) }
+        ensures { Checks (first (ending (given_in self))) (Made (given_in self)) result }
     {
         let schedule = self.schedule.ok_or(Cause::NoSchedule)?;
         if self.generators.is_empty() {

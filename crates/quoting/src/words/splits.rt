@@ -1,5 +1,5 @@
 //! A line's words, and the numbers among them.
-ghost use Rattle.quoting.specs.Words.{FirstWords, number_in, number_of, words_of};
+ghost use Rattle.quoting.specs.Words.{FirstWords, number_in, number_of};
 ghost use Rattle.std.specs.Prelude.{◌≡◌, ◌<◌, ◌≤◌, [], length, MatchResult, ◌≢◌, ◌==◌, slice_index_or};
 ghost use Rattle.quoting.specs.declared.complaint.Cause.TheVariants as cause;
 
@@ -29,7 +29,7 @@ fn number(word: &str) -> Option<u32>
 impl<'a> Words<'a> {
     #[tactic(auto, using(crate::proofs::Spacing::spaced_push, std::proofs::lemmas::List::map_push))]
     pub fn of(line: &'a str) -> Words<'a>
-        ensures { FirstWords line.now (words_of result) }
+        ensures { FirstWords line.now result }
     {
         let mut each = ArrayVec::new();
         for word in line.split_whitespace().take(MOST) {
@@ -39,21 +39,21 @@ impl<'a> Words<'a> {
     }
 
     pub fn is_empty(&self) -> bool
-        ensures { result ≡ (length (words_of self.now) == 0) }
+        ensures { result ≡ (length self.now == 0) }
     {
         self.each.is_empty()
     }
 
     /// The word at a place counted from 0, or an empty text.
     pub fn at(&self, place: usize) -> &'a str
-        ensures { result.now ≡ slice_index_or (words_of self.now) place [] }
+        ensures { result.now ≡ slice_index_or self.now place [] }
     {
         self.each.get(place).copied().unwrap_or_default()
     }
 
     /// Refuses a line that has another number of words.
     pub fn expect(&self, needed: usize) -> Result<(), Cause>
-        ensures { MatchResult result (λ _. length (words_of self.now) ≡ needed) (λ e. (length (words_of self.now) ≢ needed) × (e ≡ cause.WordCount needed)) }
+        ensures { MatchResult result (λ _. length self.now ≡ needed) (λ e. (length self.now ≢ needed) × (e ≡ cause.WordCount needed)) }
     {
         if self.each.len() != needed {
             return Err(Cause::WordCount { needed });
@@ -64,7 +64,7 @@ impl<'a> Words<'a> {
     /// The number at a place counted from 0.
     pub fn number_at(&self, place: usize) -> Result<u32, Cause>
         requires { place < 5 }
-        ensures { result ≡ number_in (words_of self.now) place }
+        ensures { result ≡ number_in self.now place }
     {
         number(self.at(place)).ok_or(Cause::NotNumber { place: place + 1 })
     }

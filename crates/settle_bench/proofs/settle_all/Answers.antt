@@ -7,7 +7,7 @@ use Rattle.settle_bench.proofs.Settling.{none_done, settle_more}
 use Rattle.settle_bench.proofs.settle_all.Goals as goal
 use Rattle.settle_bench.specs.Full.{DoneTo}
 use Rattle.share.specs.Keys.{by_units}
-use Rattle.tariff.specs.Bands.{banded, edges_of}
+use Rattle.tariff.specs.Bands.{banded_charge}
 use Rattle.tariff.specs.declared.banded.Banded.{Banded}
 
 pub loop-t-init : goal.loop-t-init
@@ -21,7 +21,7 @@ loop-t-preserved c =
     let r = c.settle.result in (
       c.settle.ensures.tariff ∙ c.loop-t.invariant.0,
       settle_more (sheet_in c.args.pages.now) z after r t c.loop-t-test.true c.loop-t.invariant.1
-          (subst (λ (bands : Banded). Does (settling (λ q. pos (banded (edges_of bands) q)) by_units t z) r after) c.loop-t.invariant.0 c.settle.ensures.does)
+          (subst (λ (bands : Banded). Does (settling (banded_charge bands) by_units t z) r after) c.loop-t.invariant.0 c.settle.ensures.does)
           c.in_ok-settle.was,
     )
 

@@ -1,30 +1,14 @@
 use Rattle.std.proofs.Common.{rules}
-use Rattle.std.proofs.lemmas.Result.{err_from_is_err_and}
 use Rattle.grammar.specs.Reads.{calls}
-use Rattle.tokens.specs.Tokens.{letters_of}
-use Rattle.lines.proofs.Fitting.{chosen, unknown, misfits, kept_sound, called}
+use Rattle.tokens.proofs.Pieces.{exit_is}
+use Rattle.lines.proofs.Fitting.{called}
 use Rattle.lines.proofs.read.read_call.Goals as goal
 
-pub returns-in_err-parts : goal.returns-in_err-parts
-returns-in_err-parts c = let p = err_from_is_err_and c.from_residual.result c.from_residual.ensures.1 in rw (p.1, p.2) (c.in_err-parts.ensures calls)
+pub returns-in_err-head : goal.returns-in_err-head
+returns-in_err-head c = rw (exit_is c.from_residual.ensures.1) (c.in_err-head.ensures calls (λ h b k. search rules))
 
-pub returns-in_default : goal.returns-in_default
-returns-in_default c =
-    let k = rw c.in_default.is at (chosen calls (letters_of c.in_ok-parts.parts.word.part) _ c.head.result c.filter.result (λ h b k. search rules) c.head.ensures c.filter.ensures) in
-    unknown calls c.args.line.now c.in_ok-parts.parts c.in_ok-parts.ensures k
-
-pub returns-in_err-fit : goal.returns-in_err-fit
-returns-in_err-fit c =
-    let p = err_from_is_err_and c.from_residual-in_err-fit.result c.from_residual-in_err-fit.ensures.1 in
-    let k = rw c.in-Some.is at (chosen calls (letters_of c.in_ok-parts.parts.word.part) _ c.head.result c.filter.result (λ h b k. search rules) c.head.ensures c.filter.ensures) in
-    rw (p.1, p.2) (misfits calls c.args.line.now c.in_ok-parts.parts c.in-Some.head _ c.in_ok-parts.ensures k.0 k.1 c.in_err-fit.ensures)
-
-pub call_of-requires : goal.call_of-requires
-call_of-requires c =
-    let k = rw c.in-Some.is at (chosen calls (letters_of c.in_ok-parts.parts.word.part) _ c.head.result c.filter.result (λ h b k. search rules) c.head.ensures c.filter.ensures) in
-    record { call = k.1; sound = rw c.deref.ensures.0 (kept_sound _ _ c.in_ok-parts.ensures) }
+pub call-requires : goal.call-requires
+call-requires c = (c.in_ok-head.ensures calls (λ h b k. search rules)).taken
 
 pub returns : goal.returns
-returns c =
-    let k = rw c.in-Some.is at (chosen calls (letters_of c.in_ok-parts.parts.word.part) _ c.head.result c.filter.result (λ h b k. search rules) c.head.ensures c.filter.ensures) in
-    called c.args.line.now c.in_ok-parts.parts c.in-Some.head _ c.in_ok-parts.ensures k.0 k.1 c.in_ok-fit.ensures (rw c.deref.ensures.0 at c.call_of.ensures)
+returns c = called _ _ _ _ (c.in_ok-head.ensures calls (λ h b k. search rules)) c.call.ensures

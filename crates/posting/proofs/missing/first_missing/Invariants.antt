@@ -9,6 +9,6 @@ invariant-blocks-2 l = (l.missing ≡ None) × (missing_from l.readings l.except
 
 abbrev pub invariant-loop-generator : goal.invariant-loop-generator
 invariant-loop-generator l =
-    (l.missing ≡ None)
-    × (option_or (missing_in l.readings l.except l.block l.generator (l.members.first + l.members.count - l.generator)) (missing_from l.readings l.except l.members (l.block + 1) (96 - (l.block + 1)))
+    (l.missing ≡ None) × (l.generator-iterator.end ≡ l.members.first + l.members.count)
+    × (option_or (missing_in l.readings l.except l.block l.generator-iterator.start (l.members.first + l.members.count - l.generator-iterator.start)) (missing_from l.readings l.except l.members (l.block + 1) (96 - (l.block + 1)))
     ≡ first_missing_of l.readings l.except l.members)

@@ -12,5 +12,5 @@ slice_bounds-result-end g c =
     let first = ap (λ (s : Station). s.members.first) at.station.is in
     let count = ap (λ (s : Station). s.members.count) at.station.is in
     let fit = at.fit.accounts in
-    let within : c.end.result ≤ length c.as_slice-accounts.result.now = omega (arith, end, first, count, fit) in
+    let within : c.numbers.result.end ≤ length c.as_slice-accounts.result.now = omega (arith, end, first, count, fit) in
     search rules

@@ -1,6 +1,5 @@
-use Rattle.std.proofs.Common.{rules}
-use Rattle.book.proofs.Changes.{in_book}
+use Rattle.book.proofs.Changes.{station_checked}
 use Rattle.book.proofs.book.Book.station.Goals as goal
 
-pub returns-in-Some : goal.returns-in-Some
-returns-in-Some g c = search (rules, in_book c.args.self.now c.args.t)
+pub returns : goal.returns
+returns g c = rw (c.ok_or.ensures.value, c.copied.ensures) (station_checked c.args.self.now c.args.t c.get.result (rw c.deref.ensures.value at c.get.ensures.lookup))

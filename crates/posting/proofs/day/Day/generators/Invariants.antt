@@ -1,4 +1,4 @@
-use Rattle.std.proofs.Common.{◌≡◌, ◌-◌}
+use Rattle.std.proofs.Common.{◌≡◌, ◌+◌, ◌-◌, ◌≤◌}
 use Rattle.posting.proofs.day.Day.generators.Given as goal
 use Rattle.posting.specs.Sheets.{loads_from, sheet_of}
 use Rattle.share.specs.Loads.{loads}
@@ -6,4 +6,10 @@ use Rattle.share.specs.Loads.{loads}
 abbrev pub invariant-loop-generator : goal.invariant-loop-generator
 invariant-loop-generator g l =
     let first = l.self.members.first in
-    loads l.generators.items ≡ loads_from (sheet_of l.self.pages l.accounts) l.block first (l.generator - first)
+    let next = l.generator-iterator.start in
+    record {
+      low : first ≤ next;
+      high : next ≤ l.generator-iterator.end;
+      end : l.generator-iterator.end ≡ first + l.self.members.count;
+      taken : loads l.generators.items ≡ loads_from (sheet_of l.self.pages l.accounts) l.block first (next - first);
+    }

@@ -1,5 +1,5 @@
 use Rattle.std.proofs.Common.{length, ap, ◌∙◌}
-use Rattle.posting.proofs.Blocks.{block_alive, length_loads, same_shares}
+use Rattle.posting.proofs.Blocks.{block_alive, length_loads}
 use Rattle.posting.proofs.day.Day.shares.Goals as goal
 use Rattle.posting.specs.Sheets.{sheet_of}
 use Rattle.share.proofs.Fairness.{fair}
@@ -8,9 +8,6 @@ use Rattle.std.proofs.lemmas.List.{length-map}
 pub returns-clause-count : goal.returns-clause-count
 returns-clause-count g c =
     c.new.ensures.count ∙ ap length c.weighed-weights.ensures.weights ∙ length-map _ _ ∙ length_loads (sheet_of c.args.self.now.pages c.args.accounts.now) c.args.block _ _
-
-pub returns-clause-each : goal.returns-clause-each
-returns-clause-each g c k = c.new.ensures.each k ∙ same_shares k c.weighed-weights.ensures.figures c.weighed-weights.ensures.weights
 
 pub returns-clause-fair : goal.returns-clause-fair
 returns-clause-fair g c =

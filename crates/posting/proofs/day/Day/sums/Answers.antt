@@ -17,9 +17,9 @@ loop-block-preserved g c =
     let b = c.weighed-weights.ensures in
     let inv = c.loop-block.invariant in
     let figures = c.weighed-weights.result.0 in
-    let charges = charge_more _ c.loop-block.block _ _ (omega arith) inv.charges_are inv.most (ap (λ f. f.money) b.figures) b.most in
+    let charges = charge_more _ c.loop-block.block _ _ (omega arith) inv.charges_are inv.most (ap (λ f. f.money) b.figures) b.sized.0 in
     let read = λ (k : ℕ). same_shares k b.figures b.weights in
-    let small = λ (k : ℕ). split_within figures _ _ _ k (b.most, omega (arith, b.farthest)) refl refl in
+    let small = λ (k : ℕ). split_within figures _ _ _ k (b.sized.0, omega (arith, b.sized.1)) refl refl in
     let more = λ (k : ℕ). shares_more _ _ c.loop-block.block _ _ _ (inv.shares_are k) (inv.within k) (read k) (small k) (c.add_shares.ensures k) in
     record {
       charges_are = charges.0;

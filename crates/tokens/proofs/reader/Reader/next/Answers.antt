@@ -1,28 +1,26 @@
 use Rattle.std.proofs.Common.{ap, ◌∙◌, rules}
-use Rattle.std.proofs.lemmas.Result.{MatchResult-at_ok, MatchResult-at_err, err_from_is_err_and}
 use Rattle.grammar.specs.Machine.{closed, outcome}
 use Rattle.tokens.specs.Pieces.{Argued, NoArgument}
-use Rattle.tokens.proofs.Pieces.{next_argument, mapped}
+use Rattle.tokens.proofs.Pieces.{next_argument, mapped_ok, mapped_err, exit_is}
 use Rattle.tokens.proofs.reader.Reader.next.Goals as goal
 
 pub returns-clause-next : goal.returns-clause-next
 returns-clause-next c =
     let s = c.args.self.now in
     let bs = c.in-Some.tail.now in
-    let h = MatchResult-at_ok _ _ _ c.in_ok-part.was (mapped (λ p. Argued bs p.0 p.1.now) (NoArgument bs) _ c.argument.result c.map_err.result c.map_err.ensures.cases c.argument.ensures) in
+    let h = mapped_ok (λ p. Argued bs p.0 p.1.now) (NoArgument bs) _ _ c.in_ok-part.was c.map_err.ensures.cases c.argument.ensures in
     (next_argument s.line.now s.rest.now bs _ _ s.ends c.in-Some.ensures h).0
 
 pub returns-in_err-part-clause-next : goal.returns-in_err-part-clause-next
 returns-in_err-part-clause-next c =
-    let p = err_from_is_err_and c.from_residual.result c.from_residual.ensures.1 in
     let bs = c.in-Some.tail.now in
-    let h = MatchResult-at_err _ _ _ c.in_err-part.was (mapped (λ p. Argued bs p.0 p.1.now) (NoArgument bs) _ c.argument.result c.map_err.result c.map_err.ensures.cases c.argument.ensures) in
-    rw (p.1, p.2) (h.0, search rules, λ f. ap (outcome (closed f)) c.in-Some.ensures ∙ h.2.1 f)
+    let h = mapped_err (λ p. Argued bs p.0 p.1.now) (NoArgument bs) _ _ c.in_err-part.was c.map_err.ensures.cases c.argument.ensures in
+    rw (exit_is c.from_residual.ensures.1) (h.0, search rules, λ f. ap (outcome (closed f)) c.in-Some.ensures ∙ h.2.1 f)
 
 pub invariant_of-self : goal.invariant_of-self
 invariant_of-self c =
     let s = c.args.self.now in
     let bs = c.in-Some.tail.now in
-    let h = MatchResult-at_ok _ _ _ c.in_ok-part.was (mapped (λ p. Argued bs p.0 p.1.now) (NoArgument bs) _ c.argument.result c.map_err.result c.map_err.ensures.cases c.argument.ensures) in
+    let h = mapped_ok (λ p. Argued bs p.0 p.1.now) (NoArgument bs) _ _ c.in_ok-part.was c.map_err.ensures.cases c.argument.ensures in
     let p = next_argument s.line.now s.rest.now bs _ _ s.ends c.in-Some.ensures h in
     record { short = p.1; ends = p.2 }

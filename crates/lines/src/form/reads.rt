@@ -1,0 +1,34 @@
+//! Reads a line as a form.
+ghost use Rattle.lines.specs.Forms.{ReadsForm};
+
+use super::{MOST_BYTES, Parts};
+use arrayvec::ArrayVec;
+use tokens::reader::Reader;
+use units::fault::Fault;
+
+/// The form that the line spells; or where the line, if it is not too long, stops beginning a form.
+/// No memory is asked for.
+pub fn read_form<'a>(line: &'a [u8]) -> Result<Parts<'a>, Fault>
+    ensures { ReadsForm line.now result }
+{
+    if line.len() > MOST_BYTES {
+        return Err(Fault::LongLine {
+            length: line.len() as u64,
+        });
+    }
+    let mut reader = Reader::new(line);
+    let letters = reader.word()?;
+    let mut args = ArrayVec::new();
+    let mut count = 0;
+    while let Some(token) = reader.next()? {
+        if !args.is_full() {
+            args.push(token.part);
+        }
+        count += 1;
+    }
+    Ok(Parts {
+        letters,
+        args,
+        count,
+    })
+}
