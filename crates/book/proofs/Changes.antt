@@ -1,5 +1,6 @@
 -- A changed station may be put back where it keeps what the book needs.
-use Rattle.std.proofs.Common.{◌≡◌, ℕ, zero, suc, ◌+◌, ◌-◌, ◌*◌, ◌/◌, ◌^◌, ◌<◌, ◌≤◌, true, false, ◌&&◌, leb, List, [], ◌∷◌, length, get_or, ℤ, pos, negsuc, ◌+ℤ◌, nat_abs, ◌≤ℤ◌, Some, None, Option, vec_items, sym, refl, ap, ◌∙◌, subst, ⊎_elim, suc-le-suc, arith, Bor}
+use Rattle.std.proofs.Common.{◌≡◌, ℕ, zero, suc, ◌+◌, ◌-◌, ◌*◌, ◌^◌, ◌<◌, ◌≤◌, List, [], ◌∷◌, length, get_or, ℤ, pos, negsuc, ◌+ℤ◌, nat_abs, ◌≤ℤ◌, Some, None, Option, sym, refl, ap, subst, suc-le-suc, arith, Bor}
+use Rattle.book.proofs.Causes.{notice_bounds}
 use Rattle.units.specs.Refusals.{Checks}
 use Rattle.book.specs.Sound.{Bounded, Changes, Covered, Light, nets, slots_of}
 use Rattle.book.specs.States.{no_station_of, nobody, StationIs}
@@ -15,20 +16,9 @@ use Rattle.std.specs.Slice.{IsItemAt}
 use Rattle.units.specs.declared.fault.Fault.TheVariants.{NoSuchNumber}
 use Rattle.tariff.specs.declared.tariff.Tariff as tariff
 use Rattle.units.proofs.Sets.{with_span_low}
-use Rattle.std.proofs.lemmas.Bool.{and_parts, cases_Bool, cond-false, cond-true, le-leb, leb-true, lt-leb}
+use Rattle.std.proofs.lemmas.Bool.{cond-false, cond-true, le-leb, lt-leb}
 use Rattle.units.specs.declared.station.Kind.{Kind}
 use Rattle.units.specs.declared.station.Kind.TheVariants.{Wind, Solar}
-
--- a notice may be given up to block 92, and its slot is one of the day's
-pub notice_bounds : (k : Kind) (n slot : ℕ) → slot_of k n ≡ Some slot → (n ≤ 92) × (slot < slots_of k)
-notice_bounds Wind n slot e = ⊎_elim
-    (λ (t : leb n 92 ≡ true). let s : Some (n / 6) ≡ Some slot = sym (cond-true (leb n 92) (Some (n / 6)) None t) ∙ e in let q : n / 6 ≡ slot = cc in let h = leb-true n 92 t in (h, omega (arith, h, q)))
-    (λ (t : leb n 92 ≡ false). let s : None ≡ Some slot = sym (cond-false (leb n 92) (Some (n / 6)) None t) ∙ e in let z : ◌≡◌ {A = ℕ} 0 1 = cc in absurd (omega arith))
-    (cases_Bool (leb n 92))
-notice_bounds Solar n slot e = ⊎_elim
-    (λ (t : (leb 22 n && leb n 75) ≡ true). let s : Some ((n - 22) / 6) ≡ Some slot = sym (cond-true (leb 22 n && leb n 75) (Some ((n - 22) / 6)) None t) ∙ e in let q : (n - 22) / 6 ≡ slot = cc in let h = leb-true n 75 (and_parts (leb 22 n) (leb n 75) t).1 in (omega (arith, h), omega (arith, h, q)))
-    (λ (t : (leb 22 n && leb n 75) ≡ false). let s : None ≡ Some slot = sym (cond-false (leb 22 n && leb n 75) (Some ((n - 22) / 6)) None t) ∙ e in let z : ◌≡◌ {A = ℕ} 0 1 = cc in absurd (omega arith))
-    (cases_Bool (leb 22 n && leb n 75))
 
 later : (P : Station → Type 0) (s : Station) (ss : List Station) → All P (s ∷ ss) → All P ss
 later P s ss each k d h = each (suc k) d (suc-le-suc h)
@@ -54,10 +44,10 @@ bounded_at ss t cash h few low even light covered =
     record { light = l; near = omega (arith, ints, c, n, even) }
 
 -- the station t of a book is bounded, and may stay as it is
-in_book : {T K : Type 0} {rules : tariff.Ghosts T} {weights : key.Ghosts K} (b : Book T K rules weights) (t : ℕ) (x : Station) → t < length (vec_items b.stations) → x ≡ get_or (vec_items b.stations) t nobody
-    → StationIs (vec_items b.stations) b.cash t x
+in_book : {T K : Type 0} {rules : tariff.Ghosts T} {weights : key.Ghosts K} (b : Book T K rules weights) (t : ℕ) (x : Station) → t < length b.stations.items → x ≡ get_or b.stations.items t nobody
+    → StationIs b.stations.items b.cash t x
 in_book b t x within is =
-    let ss = vec_items b.stations in
+    let ss = b.stations.items in
     let few : length ss ≤ 16 = omega (arith, b.few) in
     let same : (d : Station) → get_or ss t nobody ≡ get_or ss t d = λ d. get_or_default ss t nobody d within in
     record {
@@ -147,7 +137,7 @@ slots_few Wind = omega arith
 slots_few Solar = omega arith
 
 -- a look-up of station t
-pub station_checked : {T K : Type 0} {rules : tariff.Ghosts T} {weights : key.Ghosts K} (b : Book T K rules weights) (t : ℕ) (r : Option (Bor Station)) → IsItemAt (vec_items b.stations) t r
-    → Checks (no_station_of (vec_items b.stations) t) (StationIs (vec_items b.stations) b.cash t) (ok_or (option_copied r) (NoSuchNumber t))
+pub station_checked : {T K : Type 0} {rules : tariff.Ghosts T} {weights : key.Ghosts K} (b : Book T K rules weights) (t : ℕ) (r : Option (Bor Station)) → IsItemAt b.stations.items t r
+    → Checks (no_station_of b.stations.items t) (StationIs b.stations.items b.cash t) (ok_or (option_copied r) (NoSuchNumber t))
 station_checked b t None at = cond-true _ (Some (NoSuchNumber t)) None (le-leb _ _ at.3)
 station_checked b t (Some x) at = (cond-false _ (Some (NoSuchNumber t)) None (lt-leb _ _ at.3.0), in_book b t x.now at.3.0 (at.4 (omega arith) nobody))

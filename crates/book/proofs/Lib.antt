@@ -1,12 +1,13 @@
+pub mod Causes
 mod Changes
 mod Kept
 mod OpeningChecks
-mod OpeningPages
-mod OpeningStations
+pub mod OpeningPages
+pub mod OpeningStations
 mod Owners
-mod Places
+pub mod Places
 mod Positions
 mod Runs
 mod Shares
 mod Values
-mod Writes
+pub mod Writes

@@ -32,6 +32,8 @@ module _ (kinds counts : List ℕ) (same : length counts ≡ length kinds) where
       let each : (k d : ℕ) → k < length counts → get_or counts k d ≤ 32 = λ k d h. omega (arith, (all_sound e k (omega arith)).2, get_or_default counts k d 0 h) in
       omega (arith, sum_by-le (λ x. x) 32 counts each)
 
--- where no installed power is outside, none is too high
+-- where no installed power is outside, each is one that a generator may have
 pub all_installable : (kws : List ℕ) → position outside kws ≡ None → Installable kws
-all_installable kws e k h = ltb-false _ _ (or_parts _ _ (nowhere outside kws e k 0 h)).1
+all_installable kws e k h =
+    let inside = or_parts _ _ (nowhere outside kws e k 0 h) in
+    (ltb-false _ _ inside.0, ltb-false _ _ inside.1)

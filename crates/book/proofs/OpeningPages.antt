@@ -19,7 +19,7 @@ spliced_twice vs ws p n e =
     ∙ ap (λ z. vs ++ (ws ++ z)) (far ∙ ap (λ k. drop k p) long)
     ∙ sym (append_assoc vs ws (drop (0 + length (vs ++ ws)) p))
 
-length_days : (kws : List ℕ) → length (flat_map all_day kws) ≡ 96 * length kws
+pub length_days : (kws : List ℕ) → length (flat_map all_day kws) ≡ 96 * length kws
 unfolding all_day
 length_days [] = refl
 length_days (kw ∷ kws) = omega (arith, length-append (replicate 96 kw) (flat_map all_day kws), length-replicate 96 kw, length_days kws)

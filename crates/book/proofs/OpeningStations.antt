@@ -1,5 +1,5 @@
 -- Stations that have just been opened.
-use Rattle.std.proofs.Common.{◌≡◌, ℕ, zero, suc, ◌+◌, ◌<◌, List, [], ◌∷◌, map, length, get_or, take, pos, sym, refl, ap, ◌∙◌, arith, pow_pos}
+use Rattle.std.proofs.Common.{◌≡◌, ℕ, zero, suc, ◌+◌, ◌<◌, List, [], ◌∷◌, map, length, get_or, sum, take, pos, sym, refl, ap, ◌∙◌, arith, pow_pos}
 use Rattle.book.specs.Opening.{generators_in, station_opened, opened_stations, View, view_of}
 use Rattle.book.specs.Sound.{Covered, generators_of, InDay, InSlots, Laid, Light, nets, slots_of}
 use Rattle.book.specs.declared.station.Station.{Station}
@@ -16,14 +16,21 @@ tails e = cc
 no_more : {X : Type 0} {x : X} {xs : List X} → x ∷ xs ≡ [] → ⊥
 no_more e = let z : ◌≡◌ {A = ℕ} 0 1 = cc in omega arith
 
+-- station k has the kind and the count listed for it, and its generators follow those of the stations before
+pub opened_at : (ss : List Station) (n : ℕ) (kinds counts : List ℕ) → map view_of ss ≡ opened_stations n kinds counts
+    → (k : ℕ) (d : Station) → k < length ss → view_of (get_or ss k d) ≡ station_opened (n + sum (take k counts)) (get_or kinds k 0) (get_or counts k 0)
+opened_at [] n kinds counts e k d h = absurd (omega arith)
+opened_at (s ∷ ss) n [] counts e k d h = absurd (no_more e)
+opened_at (s ∷ ss) n (kind ∷ kinds) [] e k d h = absurd (no_more e)
+opened_at (s ∷ ss) n (kind ∷ kinds) (count ∷ counts) e zero d h = heads e ∙ ap (λ i. station_opened i kind count) (omega arith)
+opened_at (s ∷ ss) n (kind ∷ kinds) (count ∷ counts) e (suc k) d h =
+    opened_at ss (n + count) kinds counts (tails e) k d (omega arith)
+    ∙ ap (λ i. station_opened i (get_or kinds k 0) (get_or counts k 0)) (omega (arith, sum_by-cons (λ (x : ℕ). x) count (take k counts)))
+
 -- what holds of a station just opened holds of each
 pub each_opened : (P : Station → Type 0) → ((s : Station) (n kind count : ℕ) → view_of s ≡ station_opened n kind count → P s)
     → (ss : List Station) (n : ℕ) (kinds counts : List ℕ) → map view_of ss ≡ opened_stations n kinds counts → All P ss
-each_opened P f [] n kinds counts e k d h = absurd (omega arith)
-each_opened P f (s ∷ ss) n [] counts e k d h = absurd (no_more e)
-each_opened P f (s ∷ ss) n (kind ∷ kinds) [] e k d h = absurd (no_more e)
-each_opened P f (s ∷ ss) n (kind ∷ kinds) (count ∷ counts) e zero d h = f s n kind count (heads e)
-each_opened P f (s ∷ ss) n (kind ∷ kinds) (count ∷ counts) e (suc k) d h = each_opened P f ss (n + count) kinds counts (tails e) k d (omega arith)
+each_opened P f ss n kinds counts e k d h = f _ _ _ _ (opened_at ss n kinds counts e k d h)
 
 -- as many stations as kinds, with the generators counted, and nothing drawn or paid
 pub record Sums (ss : List Station) (kinds counts : List ℕ) : Type 0 where
@@ -63,10 +70,6 @@ laid_from (s ∷ ss) n (kind ∷ kinds) (count ∷ counts) e (suc k) d h =
 
 pub laid_opened : (ss : List Station) (kinds counts : List ℕ) → map view_of ss ≡ opened_stations 0 kinds counts → Laid ss
 laid_opened ss kinds counts e k d h = omega (arith, laid_from ss 0 kinds counts e k d h)
-
--- the lists that were lent are the opening's
-pub opened_for : (views : List View) (lent kinds lent' counts : List ℕ) → lent ≡ kinds → lent' ≡ counts → views ≡ opened_stations 0 lent lent' → views ≡ opened_stations 0 kinds counts
-opened_for views lent kinds lent' counts e e' is = is ∙ ap (λ ks. opened_stations 0 ks lent') e ∙ ap (opened_stations 0 kinds) e'
 
 -- a station just opened is within the book's limits
 pub light_opened : (s : Station) (n kind count : ℕ) → view_of s ≡ station_opened n kind count → Light s

@@ -1,12 +1,13 @@
 -- The station of a generator.
-use Rattle.std.proofs.Common.{◌≡◌, ℕ, zero, suc, ◌+◌, ◌<◌, ◌≤◌, false, List, [], ◌∷◌, length, get_or, take, Some, None, Option, sym, ap, ◌∙◌, add-one, arith}
+use Rattle.std.proofs.Common.{◌≡◌, ℕ, zero, suc, ◌+◌, ◌<◌, ◌≤◌, false, List, [], ◌∷◌, length, get_or, take, Some, None, Option, sym, refl, ap, ◌∙◌, add-one, arith}
+use Rattle.book.proofs.Causes.{none_first, none_when}
 use Rattle.book.proofs.Places.{end_at, end_within}
 use Rattle.book.proofs.Positions.{nowhere}
 use Rattle.units.specs.Refusals.{Checks, first}
 use Rattle.book.specs.Sound.{generators_of, Laid}
 use Rattle.book.specs.States.{Fit, generator_presence, no_generator, nobody, Owner, reaches, short_pages, State}
 use Rattle.book.specs.declared.station.Station.{Station}
-use Rattle.std.proofs.lemmas.Bool.{cond-false, cond-true, le-leb, lt-leb, ltb-false, ltb-true}
+use Rattle.std.proofs.lemmas.Bool.{cond-true, le-leb, lt-leb, ltb-false, ltb-true}
 use Rattle.std.proofs.lemmas.List.{take_all}
 use Rattle.std.proofs.lemmas.List.Quantifiers.{position-Some}
 use Rattle.std.proofs.lemmas.List.Sums.{position_or_len_is}
@@ -60,8 +61,5 @@ owner_checked g s None clear fit laid e =
     ap (λ c. first (c ∷ no_generator g s ∷ [])) clear
     ∙ ap (λ c. first (c ∷ [])) (cond-true _ (Some (NoSuchNumber g)) None (le-leb _ _ (owner_none g s.stations laid (sym e))))
 owner_checked g s (Some t) clear fit laid e =
-    let own = owner_some g s t fit laid (sym e) in (
-      ap (λ c. first (c ∷ no_generator g s ∷ [])) clear
-          ∙ ap (λ c. first (c ∷ [])) (cond-false _ (Some (NoSuchNumber g)) None (lt-leb _ _ own.there)),
-      own,
-    )
+    let own = owner_some g s t fit laid (sym e) in
+    (none_first (short_pages s) _ clear (none_first (no_generator g s) [] (none_when _ _ (lt-leb _ _ own.there)) refl), own)

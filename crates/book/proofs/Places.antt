@@ -1,7 +1,8 @@
 -- What a list of stations keeps when one of them changes.
-use Rattle.std.proofs.Common.{◌≡◌, ℕ, zero, suc, ◌+◌, ◌<◌, ◌≤◌, List, [], ◌∷◌, length, get_or, take, set, ◌+ℤ◌, sym, refl, ap, ◌∙◌, arith, length-set}
+use Rattle.std.proofs.Common.{◌≡◌, ℕ, zero, suc, ◌+◌, ◌<◌, ◌≤◌, List, [], ◌∷◌, length, get_or, take, drop, ◌++◌, set, ◌+ℤ◌, sym, refl, ap, ◌∙◌, arith, length-set}
 use Rattle.book.specs.Sound.{generators_of, Laid, nets}
 use Rattle.book.specs.declared.station.Station.{Station}
+use Rattle.std.proofs.lemmas.List.{take_at}
 use Rattle.std.proofs.lemmas.Int.{ints}
 use Rattle.std.proofs.lemmas.List.Sums.{sum_by-cons, sum_by-set, sum_by_more, sum_by_more_le}
 
@@ -44,3 +45,7 @@ module _ (ss : List Station) (t : ℕ) (d : Station) (h : t < length ss) (laid :
   -- and all generators do not end before
   pub end_within : (get_or ss t d).members.first + (get_or ss t d).members.count ≤ generators_of ss
   end_within = omega (arith, laid t d h, sum_by_more_le count_in ss t d h)
+
+-- the slice that was lent, with one station changed, is the list with it changed
+pub refilled : (ss lent : List Station) (t : ℕ) (s : Station) → lent ≡ ss → take (length ss) (set lent t s ++ drop (length (set lent t s)) ss) ≡ set ss t s
+refilled ss lent t s e = take_at (set lent t s) _ (length ss) (length-set lent t s ∙ ap length e) ∙ ap (λ x. set x t s) e

@@ -2,6 +2,7 @@
 use Rattle.std.proofs.Common.{◌≡◌, ℕ, ◌<◌, ◌≤◌, Bool, true, false, List, length, get_or, Some, None, sym, ap, ◌∙◌, ⊎_elim, arith}
 use Rattle.std.proofs.lemmas.Bool.{cases_lt, cond-false, cond-true, le-ltb, lt-ltb}
 use Rattle.std.proofs.lemmas.List.Sums.{fails_before_first, position_or_len_is}
+use Rattle.std.proofs.lemmas.Option.{none-some}
 use Rattle.std.specs.List.{position, position_or_len}
 
 module _ {X : Type 0} (p : X → Bool) (xs : List X) where
@@ -9,8 +10,7 @@ module _ {X : Type 0} (p : X → Bool) (xs : List X) where
   pub nowhere : position p xs ≡ None → (k : ℕ) (d : X) → k < length xs → p (get_or xs k d) ≡ false
   nowhere e k d h = ⊎_elim
       (λ (l : position_or_len p xs < length xs).
-      let some : Some (position_or_len p xs) ≡ None = sym (cond-true _ _ _ (lt-ltb _ _ l)) ∙ e in
-      let z : ◌≡◌ {A = ℕ} 0 1 = cc in absurd (omega arith))
+      absurd (none-some (position_or_len p xs) (sym e ∙ cond-true _ _ _ (lt-ltb _ _ l))))
       (λ (l : length xs ≤ position_or_len p xs). fails_before_first p xs k d (omega arith))
       (cases_lt (position_or_len p xs) (length xs))
 

@@ -1,9 +1,10 @@
 -- A search for the first value above a limit, value by value.
-use Rattle.std.proofs.Common.{◌≡◌, ℕ, ◌<◌, ◌≤◌, true, false, ltb, List, length, get_or, Some, None, sym, ap, ◌∙◌, ⊎_elim, arith}
+use Rattle.std.proofs.Common.{◌≡◌, ℕ, ◌<◌, ◌≤◌, true, false, ltb, List, length, get_or, Some, None, sym, ap, ◌∙◌, ⊎_elim}
 use Rattle.book.proofs.Positions.{first_at, none_at}
 use Rattle.book.specs.Causes.{high_value, high_values}
 use Rattle.std.specs.Option.{option_map}
 use Rattle.std.proofs.lemmas.Bool.{cond-false, cond-true, cases_Bool, le-ltb}
+use Rattle.std.proofs.lemmas.Option.{none-some}
 use Rattle.units.specs.declared.fault.Fault.{Fault}
 use Rattle.units.specs.declared.fault.Fault.TheVariants.{HighValue}
 
@@ -15,8 +16,7 @@ module _ (limit : ℕ) (vs : List ℕ) where
       ap (option_map (λ k. HighValue k limit)) (first_at (ltb limit) vs i 0 h (λ k l. le-ltb _ _ (before k l)) t)
       ∙ sym (cond-true _ (Some (HighValue i limit)) None t) ∙ e)
       (λ (t : ltb limit (get_or vs i 0) ≡ false).
-      let none : None ≡ Some f = sym (cond-false _ (Some (HighValue i limit)) None t) ∙ e in
-      let z : ◌≡◌ {A = ℕ} 0 1 = cc in absurd (omega arith))
+      absurd (none-some f (sym (cond-false _ (Some (HighValue i limit)) None t) ∙ e)))
       (cases_Bool (ltb limit (get_or vs i 0)))
 
   -- all values are through

@@ -1,26 +1,24 @@
 -- Each call as a computation on the book and its pages: its causes of refusal in the order in which they count,
 -- and what it does where none holds.
-use Rattle.std.specs.Prelude.{◌≡◌, ℕ, ◌+◌, ◌-◌, ◌*◌, ◌^◌, List, [], ◌∷◌, replicate, ℤ, Some, None, Ok, Err, Option, Result, nat_lt, slice_set}
+use Rattle.std.specs.Prelude.{◌≡◌, ℕ, ◌+◌, ◌-◌, ◌*◌, ◌^◌, List, [], ◌∷◌, replicate, Some, None, Ok, Err, Option, Result, nat_lt, slice_set}
 use Rattle.book.specs.Causes.{bad_amount, bad_blocks, high_value, revision_causes}
 use Rattle.book.specs.Lists.{installed_power_at, spliced}
 use Rattle.units.specs.Refusals.{first, when}
-use Rattle.book.specs.States.{State, admission, generator_admission, owner_of, presence, sheet_at, state, station_at}
+use Rattle.book.specs.States.{State, admission, day_at, generator_admission, owner_of, presence, state, station_at}
 use Rattle.book.specs.Stations.{available, drawn, filed_on, moved, paid, revised_in, settled_at, slot_of}
 use Rattle.book.specs.declared.book.Book.{Book}
 use Rattle.book.specs.declared.pages.Pages.{Pages}
-use Rattle.book.specs.declared.station.Action.TheVariants.{File, Declare, Issue, Revise, Close, Read, Settle, Correct}
+use Rattle.units.specs.declared.head.Head.TheVariants.{File, Declare, Issue, Revise, Close, Read, Settle, Correct}
 use Rattle.book.specs.declared.station.Station.{Station}
 use Rattle.posting.specs.Days.{posted_accounts, standing_charges}
 use Rattle.posting.specs.Missing.{first_missing_of}
 use Rattle.posting.specs.declared.account.Account.{Account}
 use Rattle.posting.specs.declared.place.Place.{Place}
 use Rattle.share.specs.declared.key.Key as key
-use Rattle.share.specs.declared.load.Load.{Load}
 use Rattle.std.specs.Option.{unwrap_or}
 use Rattle.units.specs.Bits.{first_absent_of}
 use Rattle.units.specs.declared.fault.Fault.{Fault}
 use Rattle.units.specs.declared.fault.Fault.TheVariants.{DrawAboveCash, DrawAboveDue, FullCash, MissingReading, Unfiled}
-use Rattle.tariff.specs.declared.query.Query.{Query}
 use Rattle.tariff.specs.declared.tariff.Tariff as tariff
 
 abbrev pub Answer : Type 0
@@ -41,7 +39,7 @@ pub record Does (o : Outcome) (r : Answer) (s : State) : Type 0 where
   pub after : s ≡ o.after
 
 -- A call of a book and the pages lent with it: it answered and left what is computed, under the same tariff and key.
-pub record Makes {T K : Type 0} {rules : tariff.Ghosts T} {weights : key.Ghosts K} (call : State → Outcome) (b : Book T K rules weights) (p : Pages) (b' : Book T K rules weights) (p' : Pages) (r : Answer) : Type 0 where
+pub record Makes {T K : Type 0} {prices : tariff.Ghosts T} {keys : key.Ghosts K} (call : State → Outcome) (b : Book T K prices keys) (p : Pages) (b' : Book T K prices keys) (p' : Pages) (r : Answer) : Type 0 where
   pub does : Does (call (state b p)) r (state b' p')
   pub tariff : b'.tariff ≡ b.tariff
   pub key : b'.key ≡ b.key
@@ -119,22 +117,22 @@ missing_reading None = None
 missing_reading (Some p) = Some (MissingReading p.generator p.block)
 
 -- Station t becomes x with the 96 charges that its pages give, and its generators' accounts the 96 shares of each.
-abbrev pub posted : (Query → ℤ) → (Load → Load → ℕ) → ℕ → Station → State → State
-posted charge weighs t x s = with_accounts
-    (posted_accounts charge weighs (sheet_at s) t x.members s.accounts)
-    (with_station t (settled_at (standing_charges charge (sheet_at s) t x.members) x) s)
+abbrev pub posted : ℕ → Station → State → State
+posted t x s = with_accounts
+    (posted_accounts (day_at s t x.members) s.accounts)
+    (with_station t (settled_at (standing_charges (day_at s t x.members)) x) s)
 
-abbrev pub settling : (Query → ℤ) → (Load → Load → ℕ) → ℕ → State → Outcome
-settling charge weighs t s =
+abbrev pub settling : ℕ → State → Outcome
+settling t s =
     let x = station_at s t in
     unless
     (first (admission Settle t s ∷ missing_reading (first_missing_of s.readings None x.members) ∷ []))
     s
-    (posted charge weighs t (moved Settle x) s)
+    (posted t (moved Settle x) s)
 
 -- the reading of generator g in block b becomes kw, and the station is posted again; that reading alone need not be there before
-abbrev pub correcting : (Query → ℤ) → (Load → Load → ℕ) → ℕ → ℕ → ℕ → State → Outcome
-correcting charge weighs g b kw s =
+abbrev pub correcting : ℕ → ℕ → ℕ → State → Outcome
+correcting g b kw s =
     let t = owner_of s g in
     let x = station_at s t in
     unless
@@ -145,7 +143,7 @@ correcting charge weighs g b kw s =
     ∷ missing_reading (first_missing_of s.readings (Some (record { generator = g; block = b })) x.members)
     ∷ []))
     s
-    (posted charge weighs t (moved Correct x) (with_readings (slice_set s.readings (96 * g + b) (Some kw)) s))
+    (posted t (moved Correct x) (with_readings (slice_set s.readings (96 * g + b) (Some kw)) s))
 
 -- the cash would pass 10^15 paise
 abbrev pub full_cash : ℕ → ℕ → ℕ → Option Fault

@@ -1,5 +1,5 @@
 -- What opens a book: the causes that refuse it, and the stations and pages as the day begins.
-use Rattle.std.specs.Prelude.{◌≡◌, ℕ, ◌+◌, ◌*◌, ◌<◌, ◌≤◌, Bool, cond, not, ◌&&◌, ◌||◌, ◌⊎◌, List, [], ◌∷◌, map, length, replicate, sum, zip, position, ℤ, pos, Some, None, vec_items, Option, Result, MatchResult, ◌==◌, nat_le, nat_lt, slice_index}
+use Rattle.std.specs.Prelude.{◌≡◌, ℕ, ◌+◌, ◌*◌, ◌<◌, ◌≤◌, Bool, cond, not, ◌&&◌, ◌||◌, List, [], ◌∷◌, map, length, replicate, sum, zip, position, ℤ, pos, Some, None, vec_items, Option, Result, MatchResult, ◌==◌, nat_le, nat_lt, slice_index}
 use Rattle.book.specs.Lists.{spliced}
 use Rattle.units.specs.Refusals.{first, when}
 use Rattle.book.specs.States.{Room, lengths_in, short_for}
@@ -13,7 +13,7 @@ use Rattle.std.specs.Option.{option_map}
 use Rattle.tariff.specs.declared.tariff.Tariff as tariff
 use Rattle.units.specs.declared.call.Opening.{Opening}
 use Rattle.units.specs.declared.fault.Fault.{Fault}
-use Rattle.units.specs.declared.fault.Fault.TheVariants.{BadStation, InstalledCount, InstalledRange, NoMemory, StationCount}
+use Rattle.units.specs.declared.fault.Fault.TheVariants.{BadStation, InstalledCount, InstalledRange, StationCount}
 use Rattle.units.specs.declared.station.Kind.{Kind}
 use Rattle.units.specs.declared.station.Kind.TheVariants.{Wind, Solar}
 use Rattle.units.specs.declared.station.Phase.{Phase}
@@ -27,7 +27,8 @@ generators_in counts = sum counts
 
 -- not 1 to 16 stations, or not as many counts as kinds
 abbrev pub station_count_fault : ℕ → ℕ → Option Fault
-station_count_fault kinds counts = when (kinds == 0 || (nat_lt 16 kinds || not (counts == kinds))) (StationCount kinds counts)
+station_count_fault kinds counts =
+    when (kinds == 0 || (nat_lt 16 kinds || not (counts == kinds))) (StationCount kinds counts)
 
 -- a wind station, 0, or a solar one, 1, of 1 to 32 generators
 abbrev pub sound_station : ℕ → ℕ → Bool
@@ -56,9 +57,9 @@ bad_installed kws = option_map (λ g. InstalledRange g (slice_index kws g)) (pos
 -- the causes in the order in which they count
 abbrev pub opening_fault : Opening → Pages → Option Fault
 opening_fault o p =
-    let kinds = vec_items o.kinds in
-    let counts = vec_items o.counts in
-    let installed = vec_items o.installed in
+    let kinds = o.kinds.now in
+    let counts = o.counts.now in
+    let installed = o.installed.now in
     first (
     station_count_fault (length kinds) (length counts)
     ∷ bad_stations kinds counts
@@ -95,9 +96,18 @@ view_of s = record {
 abbrev pub kind_of : ℕ → Kind
 kind_of number = cond (number == 0) Wind Solar
 
--- a station of `count` generators from the number `from` on, with nothing filed, revised, charged, paid or drawn
+-- a station of `count` generators from number `from` on, with nothing filed, charged, paid or drawn
 abbrev pub view_opened : ℕ → Kind → ℕ → View
-view_opened from kind count = record { kind = kind; phase = Filing; first = from; count = count; filed = 0; slots = 0; charges = pos 0; net = pos 0 }
+view_opened from kind count = record {
+  kind = kind;
+  phase = Filing;
+  first = from;
+  count = count;
+  filed = 0;
+  slots = 0;
+  charges = pos 0;
+  net = pos 0;
+}
 
 abbrev pub station_opened : ℕ → ℕ → ℕ → View
 station_opened from kind count = view_opened from (kind_of kind) count
@@ -106,7 +116,8 @@ station_opened from kind count = view_opened from (kind_of kind) count
 abbrev pub opened_stations : ℕ → List ℕ → List ℕ → List View
 opened_stations from [] counts = []
 opened_stations from (kind ∷ kinds) [] = []
-opened_stations from (kind ∷ kinds) (count ∷ counts) = station_opened from kind count ∷ opened_stations (from + count) kinds counts
+opened_stations from (kind ∷ kinds) (count ∷ counts) =
+    station_opened from kind count ∷ opened_stations (from + count) kinds counts
 
 -- the pages as the day begins
 
@@ -118,12 +129,17 @@ all_day kw = replicate 96 kw
 abbrev pub opened_account : ℕ → Account
 opened_account kw = record { installed = kw; money = pos 0; energy = pos 0 }
 
--- The used fronts: no schedule, the installed powers as capacities, no reading, and empty accounts. What lies beyond them is kept.
+-- The used fronts: no schedule, the installed powers as capacities, no reading, and empty accounts.
+-- What lies beyond them is kept.
 pub record Begun (stations : ℕ) (installed : List ℕ) (before after : Pages) : Type 0 where
-  pub schedules : vec_items after.schedules ≡ spliced 0 (replicate (96 * stations) 0) (vec_items before.schedules)
-  pub capacities : vec_items after.capacities ≡ spliced 0 (flat_map all_day installed) (vec_items before.capacities)
-  pub readings : vec_items after.readings ≡ spliced 0 (replicate (96 * length installed) None) (vec_items before.readings)
-  pub accounts : vec_items after.accounts ≡ spliced 0 (map opened_account installed) (vec_items before.accounts)
+  pub schedules : vec_items after.schedules
+      ≡ spliced 0 (replicate (96 * stations) 0) (vec_items before.schedules)
+  pub capacities : vec_items after.capacities
+      ≡ spliced 0 (flat_map all_day installed) (vec_items before.capacities)
+  pub readings : vec_items after.readings
+      ≡ spliced 0 (replicate (96 * length installed) None) (vec_items before.readings)
+  pub accounts : vec_items after.accounts
+      ≡ spliced 0 (map opened_account installed) (vec_items before.accounts)
 
 -- new pages: no schedule and no capacity, no reading, and accounts of zeros
 pub record Blank (stations generators : ℕ) (p : Pages) : Type 0 where
@@ -132,30 +148,12 @@ pub record Blank (stations generators : ℕ) (p : Pages) : Type 0 where
   pub readings : vec_items p.readings ≡ replicate (96 * generators) None
   pub accounts : vec_items p.accounts ≡ replicate generators (opened_account 0)
 
--- what an opening leaves
-
-pub record Opened {T K : Type 0} {rules : tariff.Ghosts T} {weights : key.Ghosts K} (tariff : T) (key : K) (o : Opening) (before after : Pages) (b : Book T K rules weights) : Type 0 where
-  pub cause : opening_fault o before ≡ None
-  pub tariff_is : b.tariff ≡ tariff
-  pub key_is : b.key ≡ key
-  pub cash : b.cash ≡ 0
-  pub generators : b.generators ≡ generators_in (vec_items o.counts)
-  pub stations : map view_of (vec_items b.stations) ≡ opened_stations 0 (vec_items o.kinds) (vec_items o.counts)
-  pub pages : Begun (length (vec_items o.kinds)) (vec_items o.installed) before after
-
--- A refusal changes no page. Memory is wanted only where no cause holds.
-pub record NotOpened (o : Opening) (before after : Pages) (f : Fault) : Type 0 where
-  pub kept : after ≡ before
-  pub cause : (opening_fault o before ≡ Some f) ⊎ ((opening_fault o before ≡ None) × (f ≡ NoMemory))
-
-abbrev pub Opens : {T K : Type 0} {rules : tariff.Ghosts T} {weights : key.Ghosts K} → T → K → Opening → Pages → Pages → Result (Book T K rules weights) Fault → Type 0
-Opens tariff key o before after r = MatchResult r (Opened tariff key o before after) (NotOpened o before after)
-
 -- what the checks find of an opening
 
--- no installed power is above 200,000 kW
+-- each installed power is one of 1,000 to 200,000 kW
 abbrev pub Installable : List ℕ → Type 0
-Installable kws = (k : ℕ) → k < length kws → slice_index kws k ≤ 200000
+Installable kws =
+    (k : ℕ) → k < length kws → (1000 ≤ slice_index kws k) × (slice_index kws k ≤ 200000)
 
 -- sound stations, with as many kinds as counts
 pub record Stands (kinds counts : List ℕ) : Type 0 where
@@ -166,9 +164,34 @@ pub record Stands (kinds counts : List ℕ) : Type 0 where
 
 -- an opening without fault, of n generators
 pub record Openable (o : Opening) (p : Pages) (n : ℕ) : Type 0 where
-  pub stations : Stands (vec_items o.kinds) (vec_items o.counts)
-  pub all : n ≡ generators_in (vec_items o.counts)
+  pub stations : Stands o.kinds.now o.counts.now
+  pub all : n ≡ generators_in o.counts.now
   pub most : n ≤ 512
-  pub each : length (vec_items o.installed) ≡ n
-  pub installable : Installable (vec_items o.installed)
-  pub room : Room (length (vec_items o.kinds)) n (lengths_in p)
+  pub each : length o.installed.now ≡ n
+  pub installable : Installable o.installed.now
+  pub room : Room (length o.kinds.now) n (lengths_in p)
+
+-- what an opening leaves
+
+-- A book as its day begins, under this tariff and key. The opening has no fault: what it lists may be
+-- laid, and the pages have room for it.
+pub record Opened {T K : Type 0} {rules : tariff.Ghosts T} {weights : key.Ghosts K}
+    (tariff : T) (key : K) (o : Opening) (before after : Pages)
+    (b : Book T K rules weights) : Type 0 where
+  pub cause : opening_fault o before ≡ None
+  pub openable : Openable o before b.generators
+  pub tariff_is : b.tariff ≡ tariff
+  pub key_is : b.key ≡ key
+  pub cash : b.cash ≡ 0
+  pub stations : map view_of b.stations.items ≡ opened_stations 0 o.kinds.now o.counts.now
+  pub pages : Begun (length o.kinds.now) o.installed.now before after
+
+-- A refusal changes no page.
+pub record NotOpened (o : Opening) (before after : Pages) (f : Fault) : Type 0 where
+  pub kept : after ≡ before
+  pub cause : opening_fault o before ≡ Some f
+
+abbrev pub Opens : {T K : Type 0} {rules : tariff.Ghosts T} {weights : key.Ghosts K}
+    → T → K → Opening → Pages → Pages → Result (Book T K rules weights) Fault → Type 0
+Opens tariff key o before after r =
+    MatchResult r (Opened tariff key o before after) (NotOpened o before after)

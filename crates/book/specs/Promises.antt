@@ -1,12 +1,10 @@
 -- What follows of the calls, in the words of the rules.
-use Rattle.std.specs.Prelude.{◌≡◌, ℕ, ◌+◌, ◌-◌, ◌*◌, ◌<◌, ◌≤◌, true, false, List, length, ℤ, Some, Ok, ◌≢◌, slice_index, slice_index_or}
+use Rattle.std.specs.Prelude.{◌≡◌, ℕ, ◌+◌, ◌-◌, ◌*◌, ◌<◌, ◌≤◌, true, false, List, length, Some, Ok, ◌≢◌, slice_index, slice_index_or}
 use Rattle.book.specs.Calls.{Outcome, correcting, first_revised, revising, settling}
 use Rattle.book.specs.States.{State, owner_of, station_at}
 use Rattle.book.specs.Stations.{slot_of}
 use Rattle.book.specs.declared.station.Station.{Station}
 use Rattle.posting.specs.Days.{among, no_account}
-use Rattle.share.specs.declared.load.Load.{Load}
-use Rattle.tariff.specs.declared.query.Query.{Query}
 use Rattle.units.specs.Bits.{count_of, has}
 
 -- the call was accepted
@@ -42,6 +40,6 @@ pub record Apart (t : ℕ) (x : Station) (before after : State) : Type 0 where
 
 abbrev pub NobodyElsesAccount : Type 0
 NobodyElsesAccount =
-    (charge : Query → ℤ) (weighs : Load → Load → ℕ) (s : State)
-    → ((t : ℕ) → Taken (settling charge weighs t s) → Apart t (station_at s t) s (settling charge weighs t s).after)
-    × ((g b kw : ℕ) → Taken (correcting charge weighs g b kw s) → Apart (owner_of s g) (station_at s (owner_of s g)) s (correcting charge weighs g b kw s).after)
+    (s : State)
+    → ((t : ℕ) → Taken (settling t s) → Apart t (station_at s t) s (settling t s).after)
+    × ((g b kw : ℕ) → Taken (correcting g b kw s) → Apart (owner_of s g) (station_at s (owner_of s g)) s (correcting g b kw s).after)

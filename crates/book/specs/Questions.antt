@@ -1,19 +1,17 @@
 -- What the questions answer, and why they are refused.
-use Rattle.std.specs.Prelude.{◌≡◌, ℕ, ◌-◌, [], ◌∷◌, take, drop, ℤ, None, Option, slice_index_or}
+use Rattle.std.specs.Prelude.{◌≡◌, ℕ, ◌-◌, [], ◌∷◌, take, drop, None, Option, slice_index_or}
 use Rattle.book.specs.Calls.{missing_reading}
 use Rattle.book.specs.Causes.{bad_blocks}
 use Rattle.units.specs.Refusals.{first}
-use Rattle.book.specs.States.{State, admission, generator_admission, owner_of, sheet_at, station_at}
+use Rattle.book.specs.States.{State, admission, day_at, generator_admission, owner_of, station_at}
 use Rattle.book.specs.Stations.{due_of}
 use Rattle.book.specs.declared.answers.Progress.{Progress}
 use Rattle.book.specs.declared.answers.Statement.{Statement}
-use Rattle.book.specs.declared.station.Action.TheVariants.{Ask}
+use Rattle.book.specs.Stations.{Ask}
 use Rattle.book.specs.declared.station.Station.{Station}
 use Rattle.posting.specs.Days.{figures_at, no_account, share_at}
 use Rattle.posting.specs.Missing.{missing_in}
 use Rattle.share.specs.declared.amounts.Amounts.{Amounts}
-use Rattle.share.specs.declared.load.Load.{Load}
-use Rattle.tariff.specs.declared.query.Query.{Query}
 use Rattle.units.specs.Bits.{count_of}
 use Rattle.units.specs.declared.fault.Fault.{Fault}
 
@@ -30,19 +28,19 @@ abbrev pub charge_refusal : ℕ → ℕ → State → Option Fault
 charge_refusal t b s = first (admission Ask t s ∷ bad_blocks b b ∷ missing_in_block t b s ∷ [])
 
 -- the charge of the block, and by how much the station deviates from its schedule
-abbrev pub charge_answer : (Query → ℤ) → ℕ → ℕ → State → Amounts
-charge_answer charge t b s = figures_at charge (sheet_at s) t (station_at s t).members b
+abbrev pub charge_answer : ℕ → ℕ → State → Amounts
+charge_answer t b s = figures_at (day_at s t (station_at s t).members) b
 
 -- a question on the block b of generator g
 abbrev pub share_refusal : ℕ → ℕ → State → Option Fault
 share_refusal g b s = first (generator_admission Ask g s ∷ bad_blocks b b ∷ missing_in_block (owner_of s g) b s ∷ [])
 
 -- what the generator gets of the charge and of the deviation
-abbrev pub share_answer : (Query → ℤ) → (Load → Load → ℕ) → ℕ → ℕ → State → Amounts
-share_answer charge weighs g b s =
+abbrev pub share_answer : ℕ → ℕ → State → Amounts
+share_answer g b s =
     let t = owner_of s g in
     let m = (station_at s t).members in
-    share_at charge weighs (sheet_at s) t m (g - m.first) b
+    share_at (day_at s t m) (g - m.first) b
 
 -- the statement of station t, under a tariff with this code
 pub record Stated (code t : ℕ) (s : State) (a : Statement) : Type 0 where

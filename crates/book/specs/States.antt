@@ -5,8 +5,10 @@ use Rattle.book.specs.Sound.{Bounded, Changes, generators_of}
 use Rattle.book.specs.Stations.{fresh, moved, moves}
 use Rattle.book.specs.declared.book.Book.{Book}
 use Rattle.book.specs.declared.pages.Pages.{Pages}
-use Rattle.book.specs.declared.station.Action.{Action}
+use Rattle.units.specs.declared.head.Head.{Head}
 use Rattle.book.specs.declared.station.Station.{Station}
+use Rattle.posting.specs.Days.{StationDay}
+use Rattle.share.specs.Rules.{Rules, rules_of}
 use Rattle.posting.specs.Sheets.{Sheet, installed_of}
 use Rattle.posting.specs.declared.account.Account.{Account}
 use Rattle.posting.specs.declared.members.Members.{Members}
@@ -20,8 +22,9 @@ use Rattle.units.specs.declared.fault.Page.TheVariants.{Schedules, Capacities, R
 use Rattle.units.specs.declared.station.Kind.TheVariants.{Wind}
 use Rattle.std.proofs.Common.{lit<, lit≤}
 
--- what a book and its pages hold
+-- by what a book settles, and what it and its pages hold
 pub record State : Type 0 where
+  pub rules : Rules
   pub stations : List Station
   pub cash : ℕ
   pub schedules : List ℕ
@@ -29,9 +32,10 @@ pub record State : Type 0 where
   pub readings : List (Option ℕ)
   pub accounts : List Account
 
-abbrev pub state : {T K : Type 0} {rules : tariff.Ghosts T} {weights : key.Ghosts K} → Book T K rules weights → Pages → State
-state b p = record {
-  stations = vec_items b.stations;
+abbrev pub state : {T K : Type 0} {prices : tariff.Ghosts T} {keys : key.Ghosts K} → Book T K prices keys → Pages → State
+state {prices = prices} {keys = keys} b p = record {
+  rules = rules_of prices keys b.tariff;
+  stations = b.stations.items;
   cash = b.cash;
   schedules = vec_items p.schedules;
   capacities = vec_items p.capacities;
@@ -42,6 +46,10 @@ state b p = record {
 -- the pages as a day's figures are taken from them
 abbrev pub sheet_at : State → Sheet
 sheet_at s = record { schedules = s.schedules; capacities = s.capacities; readings = s.readings; installed = installed_of s.accounts }
+
+-- the day of station t, where these are its generators
+abbrev pub day_at : State → ℕ → Members → StationDay
+day_at s t m = record { rules = s.rules; sheet = sheet_at s; station = t; members = m }
 
 abbrev pub generators : State → ℕ
 generators s = generators_of s.stations
@@ -126,7 +134,7 @@ abbrev pub no_generator : ℕ → State → Option Fault
 no_generator g s = when (nat_le (generators s) g) (NoSuchNumber g)
 
 -- station t does not take the action in its phase
-abbrev pub wrong_phase : Action → ℕ → Station → Option Fault
+abbrev pub wrong_phase : Head → ℕ → Station → Option Fault
 wrong_phase a t x = when (not (is_some (moves x.phase a))) (WrongPhase t x.phase)
 
 -- the pages fit, and there is station t
@@ -134,7 +142,7 @@ abbrev pub presence : ℕ → State → Option Fault
 presence t s = first (short_pages s ∷ no_station t s ∷ [])
 
 -- a call on station t that depends on its phase
-abbrev pub admission : Action → ℕ → State → Option Fault
+abbrev pub admission : Head → ℕ → State → Option Fault
 admission a t s = first (presence t s ∷ wrong_phase a t (station_at s t) ∷ [])
 
 -- the pages fit, and there is generator g
@@ -142,7 +150,7 @@ abbrev pub generator_presence : ℕ → State → Option Fault
 generator_presence g s = first (short_pages s ∷ no_generator g s ∷ [])
 
 -- a call on generator g that depends on its station's phase
-abbrev pub generator_admission : Action → ℕ → State → Option Fault
+abbrev pub generator_admission : Head → ℕ → State → Option Fault
 generator_admission a g s = first (generator_presence g s ∷ wrong_phase a (owner_of s g) (station_at s (owner_of s g)) ∷ [])
 
 -- x is the station t of the list: its sums fit, and with this cash it may stay as it is
@@ -157,7 +165,7 @@ pub record Found (t : ℕ) (s : State) (x : Station) : Type 0 where
   pub station : StationIs s.stations s.cash t x
 
 -- x is station t in the phase that the action leads to, which it may become, and the pages fit
-pub record Admitted (a : Action) (t : ℕ) (s : State) (x : Station) : Type 0 where
+pub record Admitted (a : Head) (t : ℕ) (s : State) (x : Station) : Type 0 where
   pub fit : Fit s
   pub is : x ≡ moved a (station_at s t)
   pub becomes : Changes s.stations t s.cash x s.cash
@@ -172,7 +180,7 @@ pub record Owner (g : ℕ) (s : State) (t : ℕ) : Type 0 where
   pub is : t ≡ owner_of s g
 
 -- the same, and x is that station in the phase that the action leads to, which it may become
-pub record Owned (a : Action) (g : ℕ) (s : State) (x : ℕ × Station) : Type 0 where
+pub record Owned (a : Head) (g : ℕ) (s : State) (x : ℕ × Station) : Type 0 where
   pub owner : Owner g s x.0
   pub is : x.1 ≡ moved a (station_at s x.0)
   pub becomes : Changes s.stations x.0 s.cash x.1 s.cash

@@ -1,7 +1,7 @@
 -- What the calls do to one station.
 use Rattle.std.specs.Prelude.{ℕ, suc, ◌-◌, ◌/◌, cond, ◌&&◌, ℤ, pos, negsuc, ◌+ℤ◌, ◌-ℤ◌, Some, None, Option, nat_le}
-use Rattle.book.specs.declared.station.Action.{Action}
-use Rattle.book.specs.declared.station.Action.TheVariants.{File, Declare, Issue, Revise, Close, Read, Settle, Correct, Ask}
+use Rattle.units.specs.declared.head.Head.{Head}
+use Rattle.units.specs.declared.head.Head.TheVariants.{File, Declare, Issue, Revise, Close, Read, Settle, Correct}
 use Rattle.book.specs.declared.station.Station.{Station}
 use Rattle.posting.specs.declared.members.Members.{Members}
 use Rattle.std.specs.Option.{unwrap_or}
@@ -13,7 +13,7 @@ use Rattle.units.specs.declared.station.Phase.{Phase}
 use Rattle.units.specs.declared.station.Phase.TheVariants.{Filing, Running, Metering, Settled}
 
 -- Which calls a station takes in its phase, and the phase that they lead to.
-abbrev pub moves : Phase → Action → Option Phase
+abbrev pub moves : Phase → Head → Option Phase
 moves Filing File = Some Filing
 moves Filing Declare = Some Filing
 moves Filing Issue = Some Running
@@ -23,8 +23,11 @@ moves Running Close = Some Metering
 moves Metering Read = Some Metering
 moves Metering Settle = Some Settled
 moves Settled Correct = Some Settled
-moves Settled Ask = Some Settled
 moves phase action = None
+
+-- A block's charge and shares may be asked for where a reading may be corrected.
+abbrev pub Ask : Head
+Ask = Correct
 
 -- A notice may be given in the blocks 0 to 92, by a solar station in the blocks 22 to 75; each slot has six of these blocks.
 abbrev pub slot_of : Kind → ℕ → Option ℕ
@@ -62,7 +65,7 @@ abbrev pub drawn : ℕ → Station → Station
 drawn x s = with_net (s.net +ℤ pos x) s
 
 -- the phase that an action leads to
-abbrev pub moved : Action → Station → Station
+abbrev pub moved : Head → Station → Station
 moved a s = in_phase (unwrap_or (moves s.phase a) s.phase) s
 
 -- the standing charges and what was drawn, less what was paid

@@ -9,12 +9,15 @@ mod posting_calls;
 mod questions;
 mod runs;
 
-ghost use Rattle.std.specs.Prelude.{◌≡◌, ◌^◌, ◌<◌, ◌≤◌, All, pos, ◌+ℤ◌, vec_len};
+ghost use Rattle.std.specs.Prelude.{◌≡◌, ◌^◌, ◌<◌, ◌≤◌, All, pos, ◌+ℤ◌};
+ghost use Rattle.arrayvec.specs.ArrayVec.{array_vec_len};
 ghost use Rattle.book.specs.Sound.{Covered, generators_of, InDay, InSlots, Laid, Light, nets};
 
 use crate::station::Station;
+use arrayvec::ArrayVec;
 use share::key::Key;
 use tariff::tariff::Tariff;
+use units::limits::STATIONS;
 
 /// One settlement day. Cash is what was paid less what was drawn, and no station's draws run
 /// further ahead of its payments than its largest receivable, so no sum leaves its range.
@@ -22,10 +25,10 @@ use tariff::tariff::Tariff;
 pub struct Book<T: Tariff, K: Key> {
     tariff: T,
     key: K,
-    stations: Vec<Station>,
+    stations: ArrayVec<Station, STATIONS>,
     generators: usize,
     cash: u64,
-    ghost few: { (0 < vec_len stations) × (vec_len stations ≤ 16) },
+    ghost few: { (0 < array_vec_len stations) × (array_vec_len stations ≤ 16) },
     ghost most: { generators ≤ 512 },
     ghost all: { generators_of stations.items ≡ generators },
     ghost laid: { Laid stations.items },

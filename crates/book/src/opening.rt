@@ -1,13 +1,12 @@
 //! Checks on an opening, and the stations that it lays.
-ghost use Rattle.std.specs.Prelude.{◌≡◌, ◌<◌, ◌≤◌, map, length, position, zip, MatchResult};
+ghost use Rattle.std.specs.Prelude.{◌≡◌, ◌<◌, ◌≤◌, map, length, position, zip};
 ghost use Rattle.book.specs.Opening.{bad_installed, bad_stations, generators_in, Installable, installed_count_fault, kind_of, opened_stations, outside, sound_station, Stands, station_count_fault, unsound, view_of, view_opened};
 ghost use Rattle.units.specs.Refusals.{Checks};
 ghost use Rattle.posting.specs.Members.{Numbered};
-ghost use Rattle.units.specs.declared.fault.Fault.TheVariants.{NoMemory};
 
 use crate::station::Station;
+use arrayvec::ArrayVec;
 use posting::members::Members;
-use std::alloc::Global;
 use units::fault::Fault;
 use units::limits::{GENERATORS, LEAST_INSTALLED, MOST_INSTALLED, STATIONS};
 use units::station::Kind;
@@ -120,16 +119,16 @@ fn opened_station(first: usize, kind: Kind, count: usize) -> Station
 }
 
 /// A station for each kind and count; its generators follow those of the stations before.
-pub fn lay_stations(heap: Global, kinds: &[u64], counts: &[u64]) -> Result<Vec<Station>, Fault>
+pub fn lay_stations(kinds: &[u64], counts: &[u64]) -> ArrayVec<Station, STATIONS>
     requires { Stands kinds.now counts.now }
-    ensures { MatchResult result (λ v. map view_of v.items ≡ opened_stations 0 kinds.now counts.now) (λ f. f ≡ NoMemory) }
+    ensures { map view_of result.items ≡ opened_stations 0 kinds.now counts.now }
 {
-    let mut stations = Vec::with_capacity(heap, kinds.len())?;
+    let mut stations = ArrayVec::new();
     let mut first = 0;
     for (kind, count) in kinds.iter().zip(counts) {
         let count = *count as usize;
-        stations.push_reserved(opened_station(first, kind_numbered(*kind), count));
+        stations.push(opened_station(first, kind_numbered(*kind), count));
         first += count;
     }
-    Ok(stations)
+    stations
 }

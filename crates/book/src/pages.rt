@@ -4,8 +4,10 @@ ghost use Rattle.book.specs.Lists.{installed_power_at, spliced};
 ghost use Rattle.book.specs.Opening.{all_day, Begun, Blank, Installable, opened_account};
 ghost use Rattle.book.specs.States.{lengths_in, Room};
 ghost use Rattle.std.specs.List.{flat_map};
-ghost use Rattle.book.specs.Sheets.{sheet_in};
-ghost use Rattle.posting.specs.Days.{posted_accounts, standing_charges};
+ghost use Rattle.book.specs.Sheets.{day_in, sheet_in};
+ghost use Rattle.posting.specs.Days.{posted_accounts, standing_charges, the_day};
+ghost use Rattle.share.specs.Rules.{rules_of};
+ghost use Rattle.posting.specs.Sheets.{sheet_of};
 
 use posting::account::Account;
 use posting::day::Day;
@@ -33,19 +35,16 @@ pub fn day<'a, T: Tariff, K: Key>(
     key: &'a K,
     t: u8,
     members: Members,
-    pages: Lent<'a>,
+    pages: &'a Pages,
 ) -> Day<'a, T, K>
-    ensures tariff { result.tariff.now ≡ tariff.now }
-    ensures station { result.station ≡ t }
-    ensures members { result.members ≡ members }
-    ensures pages { result.pages ≡ pages.entry }
+    ensures { the_day T.Tariff K.Key result ≡ day_in (rules_of T.Tariff K.Key tariff.now) pages.now t members }
 {
     Day {
         tariff,
         key,
         station: t,
         members,
-        pages,
+        pages: pages.lent(),
     }
 }
 
@@ -109,15 +108,14 @@ impl Pages {
     }
 
     /// The pages that a day's figures are taken from.
-    pub(crate) fn lent(&self) -> Lent<'_>
-        ensures schedules { result.schedules.now ≡ self.now.schedules.items }
-        ensures capacities { result.capacities.now ≡ self.now.capacities.items }
-        ensures readings { result.readings.now ≡ self.now.readings.items }
+    fn lent(&self) -> Lent<'_>
+        ensures { sheet_of result ≡ sheet_in self.now }
     {
         Lent {
             schedules: self.schedules.as_slice(),
             capacities: self.capacities.as_slice(),
             readings: self.readings.as_slice(),
+            accounts: self.accounts.as_slice(),
         }
     }
 
@@ -129,18 +127,14 @@ impl Pages {
         t: u8,
         members: Members,
     ) -> i64
-        ensures charges { result ≡ standing_charges (T.Tariff.charge_of tariff.now) (sheet_in self.old) t members }
+        ensures charges { result ≡ standing_charges (day_in (rules_of T.Tariff K.Key tariff.now) self.old t members) }
         ensures light { unsigned_abs result ≤ 6144000000000 }
-        ensures written { self.new.accounts.items ≡ posted_accounts (T.Tariff.charge_of tariff.now) K.Key.weighs (sheet_in self.old) t members self.old.accounts.items }
+        ensures written { self.new.accounts.items ≡ posted_accounts (day_in (rules_of T.Tariff K.Key tariff.now) self.old t members) self.old.accounts.items }
         ensures others { self.new ≡ record self.old { accounts = self.new.accounts } }
     {
-        // Not by `lent`, which would lend the accounts too.
-        let pages = Lent {
-            schedules: self.schedules.as_slice(),
-            capacities: self.capacities.as_slice(),
-            readings: self.readings.as_slice(),
-        };
-        day(tariff, key, t, members, pages).post(&mut self.accounts)
+        let sums = day(tariff, key, t, members, self).sums();
+        sums.post(&mut self.accounts);
+        sums.charges
     }
 
     /// The pages as a day begins: nothing scheduled, all installed power available, nothing metered or shared.

@@ -14,23 +14,12 @@ use arrayvec::ArrayVec;
 use posting::members::Members;
 use units::bits::BitSet;
 use units::fault::Fault;
+use units::head::Head;
 use units::limits::{BLOCKS, STATION_KW};
 use units::station::{Kind, Phase};
 
-/// The calls that depend on a station's phase.
-#[derive(Clone, Copy)]
-pub enum Action {
-    File,
-    Declare,
-    Issue,
-    Revise,
-    Close,
-    Read,
-    Settle,
-    Correct,
-    /// The questions on a block's charge and shares.
-    Ask,
-}
+/// A block's charge and shares may be asked for where a reading may be corrected.
+pub const ASK: Head = Head::Correct;
 
 #[derive(Clone, Copy)]
 pub struct Station {
@@ -64,26 +53,25 @@ impl Station {
     }
 
     /// The phase that an action leads to, if the station takes it in its phase.
-    fn next_phase(&self, action: Action) -> Option<Phase>
+    fn next_phase(&self, action: Head) -> Option<Phase>
         ensures { result ≡ moves self.now.phase action }
     {
         match (self.phase, action) {
-            (Phase::Filing, Action::File) => Some(Phase::Filing),
-            (Phase::Filing, Action::Declare) => Some(Phase::Filing),
-            (Phase::Filing, Action::Issue) => Some(Phase::Running),
-            (Phase::Running, Action::Declare) => Some(Phase::Running),
-            (Phase::Running, Action::Revise) => Some(Phase::Running),
-            (Phase::Running, Action::Close) => Some(Phase::Metering),
-            (Phase::Metering, Action::Read) => Some(Phase::Metering),
-            (Phase::Metering, Action::Settle) => Some(Phase::Settled),
-            (Phase::Settled, Action::Correct) => Some(Phase::Settled),
-            (Phase::Settled, Action::Ask) => Some(Phase::Settled),
+            (Phase::Filing, Head::File) => Some(Phase::Filing),
+            (Phase::Filing, Head::Declare) => Some(Phase::Filing),
+            (Phase::Filing, Head::Issue) => Some(Phase::Running),
+            (Phase::Running, Head::Declare) => Some(Phase::Running),
+            (Phase::Running, Head::Revise) => Some(Phase::Running),
+            (Phase::Running, Head::Close) => Some(Phase::Metering),
+            (Phase::Metering, Head::Read) => Some(Phase::Metering),
+            (Phase::Metering, Head::Settle) => Some(Phase::Settled),
+            (Phase::Settled, Head::Correct) => Some(Phase::Settled),
             _ => None,
         }
     }
 
     /// The station, which has number `t`, in the phase that the action leads to, if it takes the action in its phase.
-    pub fn moved(self, t: u64, action: Action) -> Result<Station, Fault>
+    pub fn moved(self, t: u64, action: Head) -> Result<Station, Fault>
         ensures { Checks (wrong_phase action t self) (λ x. x ≡ moved action self) result }
     {
         let phase = self.next_phase(action).ok_or(Fault::WrongPhase {
@@ -205,5 +193,16 @@ impl Station {
         ensures { self.new ≡ drawn amount self.old }
     {
         self.net += amount as i64;
+    }
+}
+
+/// A wind station of one generator, as its day begins.
+impl Default for Station {
+    ghost use Rattle.std.specs.Prelude.{◌≡◌, pos};
+
+    ghost is_default = { λ s. s.charges ≡ pos 0 };
+
+    fn default() -> Station {
+        Station::new(Kind::Wind, Members::of(0, 1).unwrap())
     }
 }

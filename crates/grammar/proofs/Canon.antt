@@ -7,7 +7,8 @@ use Rattle.std.proofs.lemmas.Str.Parse.{IsNumeralModel, numerals_by_fold}
 use Rattle.std.proofs.lemmas.Fmt.{digits_decimal, digits_value-decimal, length-decimal-le, decimal_nonempty, first_decimal, decimal_digit}
 use Rattle.std.proofs.lemmas.Bool.{cases_lt, cond-false, and_parts, ne_eqb, leb-true}
 use Rattle.grammar.specs.Grammar.{all_within, Word, Numeral, spaced, SoundArg, Sound}
-use Rattle.grammar.specs.Calls.{Value, one, many, Asked, Small, Held, argument, form, read_on, pieces, value, Canonical}
+use Rattle.grammar.specs.Calls.{Small, Held, argument, form, read_on, pieces, value, Canonical}
+use Rattle.units.specs.Calls.{Value, one, many, Asked}
 use Rattle.grammar.proofs.Reading.{one_form}
 
 pub own : IsNumeralModel (λ ds. all_within 48 57 ds ≡ true) (read_on 0)

@@ -1,14 +1,17 @@
 -- A line has one answer.
-use Rattle.std.proofs.Common.{◌≡◌, ℕ, ◌-◌, ◌<◌, Bool, true, cond, eqb, List, [], ◌∷◌, map, length, get_or, take, sym, refl, ap, ◌∙◌, subst, ⊎_elim, arith}
+use Rattle.std.proofs.Common.{◌≡◌, ℕ, ◌-◌, ◌<◌, Bool, true, List, [], ◌∷◌, map, length, take, sym, refl, ap, ◌∙◌, subst, ⊎_elim, arith}
 use Rattle.std.proofs.lemmas.List.{take-take}
 use Rattle.std.proofs.lemmas.Bool.{cases_lt}
-use Rattle.grammar.specs.Calls.{Value, one, many, Asked, asked, opens, name, sorts, head_of, argument, form, Misfit}
+use Rattle.grammar.specs.Calls.{argument, form, Misfit}
+use Rattle.units.specs.Calls.{Value, one, many, Asked, asked, opens, said}
+use Rattle.units.specs.Heads.{name, sorts}
 use Rattle.grammar.specs.Grammar.{Word, Form, spelled, NotForm}
 use Rattle.grammar.specs.Laws.{value_sort, CallsExact, OpeningsExact}
-use Rattle.grammar.specs.Reads.{calls, openings, arg_sort, has_list, Is, Heads, Refused, long, no_form, no_head, misfit, no_memory, Accepted}
-use Rattle.grammar.specs.declared.heads.Head.{Head}
-use Rattle.grammar.specs.declared.heads.Head.TheVariants.{File, Declare, Issue, Revise, Close, Read, Settle, Correct, Pay, Draw, Open}
-use Rattle.grammar.specs.declared.heads.Sort.{Sort}
+use Rattle.grammar.specs.Reads.{arg_sort, Is, Heads, Refused, long, no_form, no_head, misfit, Accepted}
+use Rattle.units.specs.Heads.{calls, openings}
+use Rattle.units.specs.declared.head.Head.{Head}
+use Rattle.units.specs.declared.head.Head.TheVariants as head
+use Rattle.units.specs.declared.head.Sort.{Sort}
 use Rattle.units.specs.declared.call.Call.{Call}
 use Rattle.units.specs.declared.call.Call.TheVariants as call
 use Rattle.units.specs.declared.call.Opening.{Opening}
@@ -17,47 +20,15 @@ use Rattle.units.specs.declared.fault.Fault.TheVariants as fault
 use Rattle.grammar.proofs.Canon.{canonical, sound_form}
 use Rattle.grammar.proofs.Reading.{one_form}
 
--- a head is known by the first letter and the length of its name
-
-abbrev head_named : List ℕ → Head
-head_named w =
-    cond (eqb (get_or w 0 0) 102) File
-    (cond (eqb (get_or w 0 0) 105) Issue
-    (cond (eqb (get_or w 0 0) 115) Settle
-    (cond (eqb (get_or w 0 0) 112) Pay
-    (cond (eqb (get_or w 0 0) 111) Open
-    (cond (eqb (get_or w 0 0) 100) (cond (eqb (length w) 7) Declare Draw)
-    (cond (eqb (get_or w 0 0) 114) (cond (eqb (length w) 6) Revise Read)
-    (cond (eqb (length w) 5) Close Correct)))))))
-
-named_back : (h : Head) → head_named (name h) ≡ h
-named_back File = refl
-named_back Declare = refl
-named_back Issue = refl
-named_back Revise = refl
-named_back Close = refl
-named_back Read = refl
-named_back Settle = refl
-named_back Correct = refl
-named_back Pay = refl
-named_back Draw = refl
-named_back Open = refl
-
+-- no two heads have one name
 pub one_head : (h k : Head) → name h ≡ name k → h ≡ k
-one_head h k e = sym (named_back h) ∙ ap head_named e ∙ named_back k
+one_head head.Open head.Open e = refl
+one_head _ head.Open e = grind arith
+one_head _ _ e = grind arith
 
 pub name_word : (h : Head) → Word (name h)
-name_word File = (refl, omega arith, omega arith)
-name_word Declare = (refl, omega arith, omega arith)
-name_word Issue = (refl, omega arith, omega arith)
-name_word Revise = (refl, omega arith, omega arith)
-name_word Close = (refl, omega arith, omega arith)
-name_word Read = (refl, omega arith, omega arith)
-name_word Settle = (refl, omega arith, omega arith)
-name_word Correct = (refl, omega arith, omega arith)
-name_word Pay = (refl, omega arith, omega arith)
-name_word Draw = (refl, omega arith, omega arith)
-name_word Open = (refl, omega arith, omega arith)
+name_word head.Open = (refl, omega arith, omega arith)
+name_word _ = (refl, omega arith, omega arith)
 
 -- the parts of an answer are settled by the line
 
@@ -104,17 +75,14 @@ one_refusal wanted line e f (long h p) (long k q) = p ∙ sym q
 one_refusal wanted line e f (long h p) (no_form n s k q) = absurd (omega arith)
 one_refusal wanted line e f (long h p) (no_head g j k q) = over line g h j
 one_refusal wanted line e f (long h p) (misfit g k n j a m q) = over line g h j
-one_refusal wanted line e f (long h p) (no_memory g k j a m l q) = over line g h j
 one_refusal wanted line e f (no_form n s h p) (long k q) = absurd (omega arith)
 one_refusal wanted line e f (no_form n s h p) (no_form m t k q) = p ∙ ap fault.NotForm (one_start line n m h k) ∙ sym q
 one_refusal wanted line e f (no_form n s h p) (no_head g j k q) = never line n g h j
 one_refusal wanted line e f (no_form n s h p) (misfit g k m j a b q) = never line n g h j
-one_refusal wanted line e f (no_form n s h p) (no_memory g k j a b l q) = never line n g h j
 one_refusal wanted line e f (no_head g i h p) (long k q) = over line g k i
 one_refusal wanted line e f (no_head g i h p) (no_form m t k q) = never line m g k i
 one_refusal wanted line e f (no_head g i h p) (no_head g' j k q) = p ∙ sym q
 one_refusal wanted line e f (no_head g i h p) (misfit g' k m j a b q) = headless line wanted g g' k i j h a
-one_refusal wanted line e f (no_head g i h p) (no_memory g' k j a b l q) = headless line wanted g g' k i j h a
 one_refusal wanted line e f (misfit g h n i a b p) (long k q) = over line g k i
 one_refusal wanted line e f (misfit g h n i a b p) (no_form m t k q) = never line m g k i
 one_refusal wanted line e f (misfit g h n i a b p) (no_head g' j k q) = headless line wanted g' g h j i k a
@@ -123,12 +91,6 @@ one_refusal wanted line e f (misfit g h n i a b p) (misfit g' k m j c d q) =
     let M : List Sort → List Sort → Type 0 = λ have want. Misfit have want n in
     let b' : Misfit (map arg_sort g'.args) (sorts k) n = subst (λ have. M have (sorts k)) (args_same g g' same) (subst (M (map arg_sort g.args)) (ap sorts (heads_same wanted g g' h k same a c)) b) in
     p ∙ ap fault.BadArgument (one_position _ _ n m b' d) ∙ sym q
-one_refusal wanted line e f (misfit g h n i a b p) (no_memory g' k j c d l q) = absurd (fits_not line wanted g g' h k n i j a c b d)
-one_refusal wanted line e f (no_memory g h i a b l p) (long k q) = over line g k i
-one_refusal wanted line e f (no_memory g h i a b l p) (no_form m t k q) = never line m g k i
-one_refusal wanted line e f (no_memory g h i a b l p) (no_head g' j k q) = headless line wanted g' g h j i k a
-one_refusal wanted line e f (no_memory g h i a b l p) (misfit g' k m j c d q) = absurd (fits_not line wanted g' g k h m j i c a d b)
-one_refusal wanted line e f (no_memory g h i a b l p) (no_memory g' k j c d m q) = p ∙ sym q
 
 -- what a line asks for
 
@@ -148,7 +110,7 @@ sorts_spelled (many ns ∷ vs) = ap (λ l. value_sort (many ns) ∷ l) (sorts_sp
 accepted_is : (wanted : Head → Bool) (line : List ℕ) (a : Asked) (h : Head) → Fitting wanted a h → Accepted line a → Is line (form a)
 accepted_is wanted line a h q p = record { short = p.short; sound = sound_form a (word_of wanted a h q) p.held; bytes = p.bytes }
 
-never_refused : (wanted : Head → Bool) (line : List ℕ) (a : Asked) (h : Head) (e : Fault) → Fitting wanted a h → Accepted line a → Refused wanted line e → (e ≡ fault.NoMemory) × (has_list (map value_sort a.values) ≡ true)
+never_refused : (wanted : Head → Bool) (line : List ℕ) (a : Asked) (h : Head) (e : Fault) → Fitting wanted a h → Accepted line a → Refused wanted line e → ⊥
 never_refused wanted line a h e q p r = from r
   where
     own : Is line (form a)
@@ -160,12 +122,11 @@ never_refused wanted line a h e q p r = from r
     fit : map arg_sort (form a).args ≡ sorts h
     fit = sorts_spelled a.values ∙ q.fits
 
-    from : Refused wanted line e → (e ≡ fault.NoMemory) × (has_list (map value_sort a.values) ≡ true)
+    from : Refused wanted line e → ⊥
     from (long k s) = over line (form a) k own
     from (no_form n t k s) = never line n (form a) k own
     from (no_head g j k s) = headless line wanted g (form a) h j own k heads
     from (misfit g k m j b c s) = absurd (fits_not line wanted g (form a) k h m j own b heads c fit)
-    from (no_memory g k j b c l s) = (s, ap has_list q.fits ∙ ap (λ h. has_list (sorts h)) (heads_same wanted (form a) g h k (one_is line (form a) g own j) heads b) ∙ l)
 
 one_reading : (wanted : Head → Bool) (line : List ℕ) (a b : Asked) (h k : Head) → Fitting wanted a h → Fitting wanted b k → Accepted line a → Accepted line b → a ≡ b
 one_reading wanted line a b h k p q r s = canonical a b (word_of wanted a h p) (word_of wanted b k q) r.held s.held (r.bytes ∙ sym s.bytes)
@@ -173,33 +134,25 @@ one_reading wanted line a b h k p q r s = canonical a b (word_of wanted a h p) (
 one_line : (line other : List ℕ) (a b : Asked) → Accepted line a → Accepted other b → a ≡ b → line ≡ other
 one_line line other a b p q e = sym p.bytes ∙ ap (λ a. spelled (form a)) e ∙ q.bytes
 
-call_fits : (c : Call) → Fitting calls (asked c) (head_of c)
-call_fits (call.File t a b x) = record { named = refl; taken = refl; fits = refl }
-call_fits (call.Declare g a b x) = record { named = refl; taken = refl; fits = refl }
+call_fits : (c : Call) → Fitting calls (asked c) (said c).head
 call_fits (call.Issue t) = record { named = refl; taken = refl; fits = refl }
-call_fits (call.Revise t k n v) = record { named = refl; taken = refl; fits = refl }
-call_fits (call.Close t) = record { named = refl; taken = refl; fits = refl }
-call_fits (call.Read g a b x) = record { named = refl; taken = refl; fits = refl }
-call_fits (call.Settle t) = record { named = refl; taken = refl; fits = refl }
-call_fits (call.Correct g b x) = record { named = refl; taken = refl; fits = refl }
-call_fits (call.Pay t x) = record { named = refl; taken = refl; fits = refl }
-call_fits (call.Draw t x) = record { named = refl; taken = refl; fits = refl }
+call_fits _ = record { named = refl; taken = refl; fits = refl }
 
-opening_fits : (o : Opening) → Fitting openings (opens o) Open
+opening_fits : (o : Opening) → Fitting openings (opens o) head.Open
 opening_fits o = record { named = refl; taken = refl; fits = refl }
 
 pub calls_exact : CallsExact
 calls_exact = record {
-  one_reading = λ line x y. one_reading calls line (asked x) (asked y) (head_of x) (head_of y) (call_fits x) (call_fits y);
+  one_reading = λ line x y. one_reading calls line (asked x) (asked y) (said x).head (said y).head (call_fits x) (call_fits y);
   one_line = λ line other x y. one_line line other (asked x) (asked y);
-  complete = λ line x e. never_refused calls line (asked x) (head_of x) e (call_fits x);
+  complete = λ line x e. never_refused calls line (asked x) (said x).head e (call_fits x);
   one_refusal = one_refusal calls;
 }
 
 pub openings_exact : OpeningsExact
 openings_exact = record {
-  one_reading = λ line x y. one_reading openings line (opens x) (opens y) Open Open (opening_fits x) (opening_fits y);
+  one_reading = λ line x y. one_reading openings line (opens x) (opens y) head.Open head.Open (opening_fits x) (opening_fits y);
   one_line = λ line other x y. one_line line other (opens x) (opens y);
-  complete = λ line x e. never_refused openings line (opens x) Open e (opening_fits x);
+  complete = λ line x e. never_refused openings line (opens x) head.Open e (opening_fits x);
   one_refusal = one_refusal openings;
 }

@@ -1,13 +1,12 @@
 -- What the rules of reading come to.
-use Rattle.std.specs.Prelude.{◌≡◌, ℕ, true, List, map, Ok, Err, Result}
-use Rattle.grammar.specs.Calls.{Value, one, many, Asked, asked, opens}
-use Rattle.grammar.specs.Reads.{has_list, Accepted, ReadsCall, ReadsOpening}
-use Rattle.grammar.specs.declared.heads.Sort.{Sort}
-use Rattle.grammar.specs.declared.heads.Sort.TheVariants.{Number, List as Listed}
+use Rattle.std.specs.Prelude.{◌≡◌, ℕ, List, Ok, Err, Result}
+use Rattle.units.specs.Calls.{Value, one, many, Asked, asked, opens}
+use Rattle.grammar.specs.Reads.{Accepted, ReadsCall, ReadsOpening}
+use Rattle.units.specs.declared.head.Sort.{Sort}
+use Rattle.units.specs.declared.head.Sort.TheVariants.{Number, List as Listed}
 use Rattle.units.specs.declared.call.Call.{Call}
 use Rattle.units.specs.declared.call.Opening.{Opening}
 use Rattle.units.specs.declared.fault.Fault.{Fault}
-use Rattle.units.specs.declared.fault.Fault.TheVariants.{NoMemory}
 
 abbrev pub value_sort : Value → Sort
 value_sort (one n) = Number
@@ -19,8 +18,8 @@ pub record Exact (X : Type 0) (asks : X → Asked) (Reads : List ℕ → Result 
   pub one_reading : (line : List ℕ) (x y : X) → Reads line (Ok x) → Reads line (Ok y) → asks x ≡ asks y
   -- what is read is spelled by one line
   pub one_line : (line other : List ℕ) (x y : X) → Reads line (Ok x) → Reads other (Ok y) → asks x ≡ asks y → line ≡ other
-  -- the spelling of something is refused only for want of memory, and only if it holds a list
-  pub complete : (line : List ℕ) (x : X) (e : Fault) → Accepted line (asks x) → Reads line (Err e) → (e ≡ NoMemory) × (has_list (map value_sort (asks x).values) ≡ true)
+  -- the spelling of something is never refused
+  pub complete : (line : List ℕ) (x : X) (e : Fault) → Accepted line (asks x) → Reads line (Err e) → ⊥
   -- a line is refused for one cause
   pub one_refusal : (line : List ℕ) (e f : Fault) → Reads line (Err e) → Reads line (Err f) → e ≡ f
 

@@ -1,7 +1,7 @@
 -- The reader as a machine that takes the line byte by byte.
 --
--- Nothing that a public call promises is said in these words: `proofs/Reading.antt` shows that
--- `outcome` finds the form that a line spells, or the longest start of a form.
+-- The reader of a line's parts speaks of it; what reading a line answers does not: `proofs/Reading.antt`
+-- shows that `outcome` finds the form that a line spells, or the longest start of a form.
 use Rattle.std.specs.Prelude.{ℕ, suc, Bool, false, cond, ◌&&◌, List, [], ◌∷◌, ◌++◌, length, Some, None, Option, ◌==◌, nat_lt, slice_index}
 use Rattle.std.specs.List.{flat_map}
 use Rattle.std.specs.Int.{is_in_range}

@@ -1,44 +1,21 @@
 -- What reading a line answers.
-use Rattle.std.specs.Prelude.{◌≡◌, ℕ, ◌<◌, ◌≤◌, Bool, true, false, not, List, [], ◌∷◌, map, length, Ok, Err, Result}
+use Rattle.std.specs.Prelude.{◌≡◌, ℕ, ◌<◌, ◌≤◌, Bool, true, List, map, length, Ok, Err, Result}
 use Rattle.std.specs.List.{AllByRecursion}
-use Rattle.grammar.specs.Calls.{Asked, asked, opens, name, sorts, Held, form, Misfit}
+use Rattle.grammar.specs.Calls.{Held, form, Misfit}
+use Rattle.units.specs.Calls.{Asked, asked, opens}
+use Rattle.units.specs.Heads.{name, sorts, calls, openings}
 use Rattle.grammar.specs.Grammar.{Arg, number, list, Form, Sound, spelled, NotForm}
-use Rattle.grammar.specs.declared.heads.Head.{Head}
-use Rattle.grammar.specs.declared.heads.Head.TheVariants.{File, Declare, Issue, Revise, Close, Read, Settle, Correct, Pay, Draw, Open}
-use Rattle.grammar.specs.declared.heads.Sort.{Sort}
-use Rattle.grammar.specs.declared.heads.Sort.TheVariants.{Number, List as Listed}
+use Rattle.units.specs.declared.head.Head.{Head}
+use Rattle.units.specs.declared.head.Sort.{Sort}
+use Rattle.units.specs.declared.head.Sort.TheVariants.{Number, List as Listed}
 use Rattle.units.specs.declared.call.Call.{Call}
 use Rattle.units.specs.declared.call.Opening.{Opening}
 use Rattle.units.specs.declared.fault.Fault.{Fault}
 use Rattle.units.specs.declared.fault.Fault.TheVariants as fault
 
--- the only head of a line that opens a book
-abbrev pub openings : Head → Bool
-openings File = false
-openings Declare = false
-openings Issue = false
-openings Revise = false
-openings Close = false
-openings Read = false
-openings Settle = false
-openings Correct = false
-openings Pay = false
-openings Draw = false
-openings Open = true
-
--- the heads of calls: all the others
-abbrev pub calls : Head → Bool
-calls h = not (openings h)
-
 abbrev pub arg_sort : Arg → Sort
 arg_sort (number ds) = Number
 arg_sort (list bs) = Listed
-
--- a list is among them
-abbrev pub has_list : List Sort → Bool
-has_list [] = false
-has_list (Number ∷ ss) = has_list ss
-has_list (Listed ∷ ss) = true
 
 -- the longest line that is read
 abbrev pub most_bytes : ℕ
@@ -62,7 +39,6 @@ pub data Refused (wanted : Head → Bool) (line : List ℕ) (e : Fault) : Type 0
   no_form : (n : ℕ) → length line ≤ most_bytes → NotForm line n → e ≡ fault.NotForm n → Refused wanted line e
   no_head : (f : Form) → Is line f → ((h : Head) → Heads wanted f h → ⊥) → e ≡ fault.UnknownHead → Refused wanted line e
   misfit : (f : Form) (h : Head) (p : ℕ) → Is line f → Heads wanted f h → Misfit (map arg_sort f.args) (sorts h) p → e ≡ fault.BadArgument p → Refused wanted line e
-  no_memory : (f : Form) (h : Head) → Is line f → Heads wanted f h → map arg_sort f.args ≡ sorts h → has_list (sorts h) ≡ true → e ≡ fault.NoMemory → Refused wanted line e
 
 -- the line is the one that spells this, and a form holds each value
 pub record Accepted (line : List ℕ) (a : Asked) : Type 0 where

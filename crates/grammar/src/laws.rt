@@ -8,7 +8,7 @@ pub fn one_call_for_a_line()
 {}
 
 /// A call is read from one line only, a line is read as one call or refused for one cause,
-/// and no spelling of a call is refused but for want of memory.
+/// and no spelling of a call is refused.
 pub fn calls_are_read_exactly()
     ensures { CallsExact }
 {}

@@ -2,25 +2,27 @@
 use Rattle.std.proofs.Common.{◌≡◌, ℕ, ◌-◌, ◌≤◌, min, Bool, true, false, List, map, length, take, Ok, Err, Result, MatchResult, Some, None, Option, MatchOption, ◌≢◌, sym, refl, ap, ◌∙◌, subst, arith, length-take}
 use Rattle.std.specs.Bool.{then_some}
 use Rattle.std.specs.Option.{ok_or}
-use Rattle.std.proofs.lemmas.Bool.{both_ways}
+use Rattle.std.proofs.lemmas.Bool.{both_ways, not_from_true}
 use Rattle.grammar.proofs.Exactly.{one_head}
 use Rattle.std.proofs.lemmas.List.{take_all, take-take, take-map}
 use Rattle.std.proofs.lemmas.Simd.{map-map}
+use Rattle.units.specs.declared.fault.Fault.{Fault}
+use Rattle.units.specs.declared.fault.Fault.TheVariants.{UnknownHead}
+use Rattle.grammar.specs.Calls.{Misfit, value}
+use Rattle.units.specs.Calls.{Value, IsCallOf, fitted, opening_said, spoken, with_values}
+use Rattle.units.specs.Heads.{calls, openings, sorts, name}
 use Rattle.units.specs.declared.call.Call.{Call}
 use Rattle.units.specs.declared.call.Opening.{Opening}
-use Rattle.units.specs.declared.fault.Fault.{Fault}
-use Rattle.units.specs.declared.fault.Fault.TheVariants.{NoMemory, UnknownHead}
-use Rattle.grammar.specs.Calls.{Misfit, asked, opens, sorts, name}
 use Rattle.grammar.specs.Grammar.{Form, spelled}
-use Rattle.grammar.specs.Reads.{arg_sort, has_list, openings, calls, Heads, Refused, no_head, misfit, no_memory, Accepted, ReadsCall, ReadsOpening}
-use Rattle.grammar.specs.declared.heads.Head.{Head}
-use Rattle.grammar.specs.declared.heads.Head.TheVariants.{File, Declare, Issue, Revise, Close, Read, Settle, Correct, Pay, Draw, Open}
-use Rattle.grammar.specs.declared.heads.Sort.{Sort}
+use Rattle.grammar.specs.Reads.{arg_sort, Heads, Refused, no_head, misfit, Accepted, ReadsCall, ReadsOpening}
+use Rattle.units.specs.declared.head.Head.{Head}
+use Rattle.units.specs.declared.head.Head.TheVariants as head
+use Rattle.units.specs.declared.head.Sort.{Sort}
 use Rattle.tokens.specs.Tokens.{arg_of}
-use Rattle.lines.specs.Arguments.{part_sort, asks}
+use Rattle.lines.specs.Arguments.{call_values, part_sort, values_of}
 use Rattle.lines.specs.Forms.{Found, Fits, Tells, Fitting}
 use Rattle.lines.specs.declared.form.Parts.{Parts}
-use Rattle.lines.proofs.Taking.{few_sorts, how_many, spells}
+use Rattle.lines.proofs.Taking.{few_sorts, fits, how_many, sorts_of_values, spells}
 
 -- the first five sorts tell as much as all
 cut_misfit : (have want : List Sort) (p : ℕ) → length want ≤ 4 → Misfit (take 5 have) want p → Misfit have want p
@@ -60,37 +62,33 @@ misfits {line = line} {parts = parts} {h = h} q k m =
 pub fitting : {heads : Head → Bool} {line : List ℕ} {parts : Parts} {h : Head} (q : Found line parts) → Heads heads q.form h → map part_sort parts.args.items ≡ sorts h → Fitting heads line h parts
 fitting {line = line} {parts = parts} {h = h} q k m =
     let f : Form = q.form in
-    let fits : map arg_sort f.args ≡ sorts h = cut_fit _ (sorts h) (few_sorts h) (sym (kept_sorts line parts q) ∙ m) in
-    let whole : map arg_of parts.args.items ≡ f.args = q.kept ∙ take_all 5 f.args (omega (arith, how_many f.args (sorts h) fits, few_sorts h)) in
-    let s = spells (sorts h) f.args fits q.is.sound.args in
+    let same : map arg_sort f.args ≡ sorts h = cut_fit _ (sorts h) (few_sorts h) (sym (kept_sorts line parts q) ∙ m) in
+    let whole : map arg_of parts.args.items ≡ f.args = q.kept ∙ take_all 5 f.args (omega (arith, how_many f.args (sorts h) same, few_sorts h)) in
+    let s = spells f.args q.is.sound.args in
+    let vs : fitted (sorts h) (map value f.args) 0 ≡ map value f.args = fits (sorts h) (map value f.args) (sorts_of_values f.args ∙ same) in
     record {
       taken = k.taken;
-      accepted = subst (λ xs. Accepted line (asks h xs)) (sym whole) (record {
+      accepted = subst (λ xs. Accepted line (spoken (with_values h (map value xs)))) (sym whole) (subst (λ l. Accepted line (record { head = name h; values = l })) (sym vs) (record {
         short = q.is.short;
         held = s.held;
         bytes = (λ i. spelled (record { head = sym k.named i; args = s.spells i })) ∙ q.is.bytes;
-      });
-      memory = λ lists. no_memory f h q.is k fits lists refl;
+      }));
     }
 
-pub called : (line : List ℕ) (parts : Parts) (h : Head) (r : Result Call Fault) → Fitting calls line h parts → MatchResult r (λ c. asked c ≡ asks h (map arg_of parts.args.items)) (λ e. (e ≡ NoMemory) × (has_list (sorts h) ≡ true)) → ReadsCall line r
-called line parts h (Ok c) f e = subst (Accepted line) (sym e) f.accepted
-called line parts h (Err e) f none = subst (Refused calls line) (sym none.0) (f.memory none.1)
+-- of four values a call takes those that may be lists from the last place alone
+enough : (h : Head) (vs : List Value) → calls h ≡ true → with_values h (call_values vs) ≡ with_values h vs
+enough head.Open vs e = absurd cc
+enough _ vs e = refl
 
--- the one head of openings
-only : (h : Head) → openings h ≡ true → h ≡ Open
-only Open e = refl
-only File e = cc
-only Declare e = cc
-only Issue e = cc
-only Revise e = cc
-only Close e = cc
-only Read e = cc
-only Settle e = cc
-only Correct e = cc
-only Pay e = cc
-only Draw e = cc
+pub called : {line : List ℕ} {parts : Parts} {h k : Head} {vs : List Value} {r : Result Call Fault} (o : Option Call) → Fitting calls line h parts → k ≡ h → vs ≡ call_values (values_of parts.args.items) → IsCallOf k vs o → r ≡ ok_or o UnknownHead → ReadsCall line r
+called None f same e none is = absurd (both_ways _ (not_from_true _ none) (ap calls same ∙ f.taken))
+called {line = line} {parts = parts} {h = h} (Some c) f same e made is =
+    rw is (subst (λ s. Accepted line (spoken s)) (sym (made.1 ∙ (λ i. with_values (same i) (e i)) ∙ enough h (values_of parts.args.items) f.taken)) f.accepted)
 
-pub opened : (line : List ℕ) (parts : Parts) (h : Head) (r : Result Opening Fault) → Fitting openings line h parts → MatchResult r (λ o. opens o ≡ asks Open (map arg_of parts.args.items)) (λ e. e ≡ NoMemory) → ReadsOpening line r
-opened line parts h (Ok o) f e = subst (Accepted line) (sym (e ∙ ap (λ j. asks j (map arg_of parts.args.items)) (sym (only h f.taken)))) f.accepted
-opened line parts h (Err e) f none = subst (Refused openings line) (sym none) (f.memory (ap (λ j. has_list (sorts j)) (only h f.taken)))
+pub opened : {line : List ℕ} {parts : Parts} {h : Head} (o : Opening) → Fitting openings line h parts → opening_said o ≡ with_values head.Open (values_of parts.args.items) → ReadsOpening line (Ok o)
+opened {line = line} {parts = parts} {h = h} o f made =
+    subst (λ s. Accepted line (spoken s)) (sym (made ∙ ap (λ k. with_values k (values_of parts.args.items)) (only h f.taken))) f.accepted
+  where
+    only : (h : Head) → openings h ≡ true → head.Open ≡ h
+    only head.Open k = refl
+    only _ k = absurd cc

@@ -51,3 +51,11 @@ sound_pieces bs h = All-from_recursion Numeral _ (each h.each h.sound h.some h.b
 
 pub numeral_at : (bs ds : List ℕ) (k : ℕ) → All Numeral (pieces [] bs) → k < length (slice_split is_space bs) → ds ≡ get_or (slice_split is_space bs) k ds → Numeral ds
 numeral_at bs ds k h lt e = subst Numeral (sym e) (subst (All Numeral) (sym (pieces_are bs)) h k ds lt)
+
+-- no more than 96 of them
+pub few_pieces : (bs : List ℕ) → Numbers 96 bs → length (pieces [] bs) ≤ 96
+few_pieces bs h = few h.each h.sound h.some h.few h.bytes
+  where
+    few : (ns : List (List ℕ)) → AllByRecursion Numeral ns → 1 ≤ length ns → length ns ≤ 96 → bs ≡ spaced ns → length (pieces [] bs) ≤ 96
+    few [] a s l e = absurd (omega arith)
+    few (n ∷ ns) a s l e = omega (arith, ap length (ap (pieces []) e ∙ pieces_spaced n ns a))

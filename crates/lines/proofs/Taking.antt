@@ -1,17 +1,19 @@
 -- The values of arguments spell them.
-use Rattle.std.proofs.Common.{◌≡◌, ℕ, suc, ◌+◌, ◌<◌, ◌≤◌, List, [], ◌∷◌, map, length, get_or, drop, decimal, sym, refl, ap, ◌∙◌, subst, add-zero, arith}
+use Rattle.std.proofs.Common.{◌≡◌, ℕ, zero, suc, ◌+◌, ◌<◌, ◌≤◌, List, [], ◌∷◌, map, length, get_or, drop, decimal, sym, refl, ap, ◌∙◌, subst, add-zero, arith}
 use lib.ListN.{length-map}
 use Rattle.std.specs.List.{AllByRecursion}
-use Rattle.grammar.specs.Calls.{Value, one, many, argument, Held, Small, read_on, pieces, sorts}
+use Rattle.grammar.specs.Calls.{argument, Held, Small, read_on, pieces, value}
 use Rattle.grammar.specs.Grammar.{Numeral, Numbers, spaced, Arg, number, list, SoundArg}
+use Rattle.grammar.specs.Laws.{value_sort}
 use Rattle.grammar.specs.Reads.{arg_sort}
-use Rattle.grammar.specs.declared.heads.Head.{Head}
-use Rattle.grammar.specs.declared.heads.Head.TheVariants.{File, Declare, Issue, Revise, Close, Read, Settle, Correct, Pay, Draw, Open}
-use Rattle.grammar.specs.declared.heads.Sort.{Sort}
-use Rattle.grammar.specs.declared.heads.Sort.TheVariants.{Number as Single, List as Several}
 use Rattle.grammar.proofs.Canon.{pieces_spaced}
-use Rattle.lines.specs.Arguments.{number_of, list_of, value_at, values_from}
 use Rattle.lines.proofs.Figures.{small_value, written_back}
+use Rattle.units.specs.Calls.{Value, one, many, as_sort, fitted}
+use Rattle.units.specs.Heads.{sorts}
+use Rattle.units.specs.declared.head.Head.{Head}
+use Rattle.units.specs.declared.head.Head.TheVariants as head
+use Rattle.units.specs.declared.head.Sort.{Sort}
+use Rattle.units.specs.declared.head.Sort.TheVariants.{Number as Single, List as Several}
 
 -- each argument is read back as it is spelled
 
@@ -40,46 +42,60 @@ list_back bs h = from h.each h.sound h.some h.few h.bytes
           held = (omega (arith, length-map (n ∷ ns) (read_on 0)), omega (arith, length-map (n ∷ ns) (read_on 0)), each_small (n ∷ ns) a);
         }))
 
-back : (s : Sort) (xs : List Arg) (i : ℕ) (x : Arg) → get_or xs i (number []) ≡ x → arg_sort x ≡ s → SoundArg x → Back (value_at s xs i) x
-back Single xs i (number ds) e t h = subst (λ y. Back (one (number_of y)) (number ds)) (sym e) (record { spells = ap number (written_back ds h); held = small_value ds h })
-back Several xs i (number ds) e t h = let z : ◌≡◌ {A = ℕ} 0 1 = cc in absurd (omega arith)
-back Single xs i (list bs) e t h = let z : ◌≡◌ {A = ℕ} 0 1 = cc in absurd (omega arith)
-back Several xs i (list bs) e t h = subst (λ y. Back (many (list_of y)) (list bs)) (sym e) (list_back bs h)
-
--- the values of these sorts spell the arguments that stand from the i-th on
+-- the values of sound arguments spell them
 pub record Spells (vs : List Value) (xs : List Arg) : Type 0 where
   pub spells : map argument vs ≡ xs
   pub held : AllByRecursion Held vs
 
-values_back : (ss : List Sort) (all xs : List Arg) (i : ℕ) → ((k : ℕ) → k < length xs → get_or all (i + k) (number []) ≡ get_or xs k (number [])) → map arg_sort xs ≡ ss → AllByRecursion SoundArg xs → Spells (values_from ss all i) xs
-values_back [] all [] i at e a = record { spells = refl; held = tt }
-values_back [] all (x ∷ xs) i at e a = absurd (omega (arith, ap length e))
-values_back (s ∷ ss) all [] i at e a = absurd (omega (arith, ap length e))
-values_back (s ∷ ss) all (x ∷ xs) i at e a =
-    let here = back s all i x (ap (λ j. get_or all j (number [])) (sym (add-zero i)) ∙ at 0 (omega arith)) (ap (λ l. get_or l 0 s) e) a.0 in
-    let more = values_back ss all xs (i + 1) later (ap (drop 1) e) a.1 in
+pub spells : (xs : List Arg) → AllByRecursion SoundArg xs → Spells (map value xs) xs
+spells [] a = record { spells = refl; held = tt }
+spells (number ds ∷ xs) a =
+    let more = spells xs a.1 in
+    record { spells = λ j. number (written_back ds a.0 j) ∷ more.spells j; held = (small_value ds a.0, more.held) }
+spells (list bs ∷ xs) a =
+    let here = list_back bs a.0 in
+    let more = spells xs a.1 in
     record { spells = λ j. here.spells j ∷ more.spells j; held = (here.held, more.held) }
+
+-- values of the sorts that are wanted fit as they are
+
+as_is : (s : Sort) (v : Value) → value_sort v ≡ s → as_sort s v ≡ v
+as_is Single (one n) e = refl
+as_is Several (one n) e = let z : ◌≡◌ {A = ℕ} 0 1 = cc in absurd (omega arith)
+as_is Single (many ns) e = let z : ◌≡◌ {A = ℕ} 0 1 = cc in absurd (omega arith)
+as_is Several (many ns) e = refl
+
+fits_from : (ss : List Sort) (all vs : List Value) (i : ℕ) → ((k : ℕ) → k < length vs → get_or all (i + k) (one 0) ≡ get_or vs k (one 0)) → map value_sort vs ≡ ss → fitted ss all i ≡ vs
+fits_from [] all [] i at e = refl
+fits_from [] all (v ∷ vs) i at e = absurd (omega (arith, ap length e))
+fits_from (s ∷ ss) all [] i at e = absurd (omega (arith, ap length e))
+fits_from (s ∷ ss) all (v ∷ vs) i at e =
+    let here : get_or all i (one 0) ≡ v = ap (λ j. get_or all j (one 0)) (sym (add-zero i)) ∙ at 0 (omega arith) in
+    let same : as_sort s (get_or all i (one 0)) ≡ v = ap (as_sort s) here ∙ as_is s v (ap (λ l. get_or l 0 s) e) in
+    let more = fits_from ss all vs (i + 1) later (ap (drop 1) e) in
+    λ j. same j ∷ more j
   where
-    later : (k : ℕ) → k < length xs → get_or all (i + 1 + k) (number []) ≡ get_or xs k (number [])
-    later k h = let j : i + 1 + k ≡ i + suc k = omega arith in ap (λ j. get_or all j (number [])) j ∙ at (suc k) (omega arith)
+    later : (k : ℕ) → k < length vs → get_or all (i + 1 + k) (one 0) ≡ get_or vs k (one 0)
+    later k h = let j : i + 1 + k ≡ i + suc k = omega arith in ap (λ j. get_or all j (one 0)) j ∙ at (suc k) (omega arith)
+
+pub fits : (ss : List Sort) (vs : List Value) → map value_sort vs ≡ ss → fitted ss vs 0 ≡ vs
+fits ss vs e = fits_from ss vs vs 0 (λ k h. let same : 0 + k ≡ k = omega arith in ap (λ j. get_or vs j (one 0)) same) e
+
+pub sorts_of_values : (xs : List Arg) → map value_sort (map value xs) ≡ map arg_sort xs
+sorts_of_values [] = refl
+sorts_of_values (number ds ∷ xs) = ap (λ l. Single ∷ l) (sorts_of_values xs)
+sorts_of_values (list bs ∷ xs) = ap (λ l. Several ∷ l) (sorts_of_values xs)
 
 -- no head takes more than four arguments
 pub few_sorts : (h : Head) → length (sorts h) ≤ 4
-few_sorts File = omega arith
-few_sorts Declare = omega arith
-few_sorts Issue = omega arith
-few_sorts Revise = omega arith
-few_sorts Close = omega arith
-few_sorts Read = omega arith
-few_sorts Settle = omega arith
-few_sorts Correct = omega arith
-few_sorts Pay = omega arith
-few_sorts Draw = omega arith
-few_sorts Open = omega arith
+few_sorts head.Open = omega arith
+few_sorts _ = omega arith
 
 pub how_many : (xs : List Arg) (ss : List Sort) → map arg_sort xs ≡ ss → length xs ≡ length ss
 how_many xs ss e = sym (length-map xs arg_sort) ∙ ap length e
 
--- the values of all arguments
-pub spells : (ss : List Sort) (xs : List Arg) → map arg_sort xs ≡ ss → AllByRecursion SoundArg xs → Spells (values_from ss xs 0) xs
-spells ss xs e a = values_back ss xs xs 0 (λ k h. let same : 0 + k ≡ k = omega arith in ap (λ j. get_or xs j (number [])) same) e a
+-- what the argument at a place says
+pub value_at : (xs : List Arg) (i : ℕ) → value (get_or xs i (number [])) ≡ get_or (map value xs) i (one 0)
+value_at [] i = refl
+value_at (x ∷ xs) zero = refl
+value_at (x ∷ xs) (suc i) = value_at xs i

@@ -1,13 +1,12 @@
 -- What reading a line as a form answers.
-use Rattle.std.proofs.Common.{◌≡◌, ℕ, ◌+◌, ◌-◌, ◌<◌, ◌≤◌, min, Bool, List, [], ◌∷◌, ◌++◌, map, length, take, Err, sym, refl, ap, ◌∙◌, subst, arith, length-take}
-use Rattle.std.proofs.lemmas.List.{length_push, map_push, take_all, take-append-le}
+use Rattle.std.proofs.Common.{◌≡◌, ℕ, zero, suc, ◌+◌, ◌-◌, ◌≤◌, Bool, List, [], ◌∷◌, ◌++◌, map, length, take, Err, sym, refl, ap, ◌∙◌, subst, arith}
+use Rattle.std.proofs.lemmas.List.{length_push, map_push, take-map}
 use Rattle.std.specs.List.{All}
-use Rattle.std.proofs.lemmas.List.Elements.{All-push}
-use lib.ListN.{length-map}
+use Rattle.std.proofs.lemmas.List.Elements.{All-push, All-take}
 use Rattle.grammar.specs.Grammar.{Arg, Form}
 use Rattle.grammar.specs.Machine.{start, closed, outcome, stuck, whole}
 use Rattle.grammar.specs.Reads.{Refused, no_form}
-use Rattle.grammar.specs.declared.heads.Head.{Head}
+use Rattle.units.specs.declared.head.Head.{Head}
 use Rattle.grammar.proofs.Reading.{reads_form, not_form_lem}
 use Rattle.lines.specs.Forms.{Found, ReadsForm}
 use Rattle.lines.specs.declared.form.Parts.{Parts}
@@ -42,32 +41,19 @@ pub record Gathered (line w : List ℕ) (parts : List Part) (count : ℕ) (rest 
   pub sound : All SoundPart parts
   pub reached : Reached line w args rest
 
--- how many are kept
-kept_is : (parts : List Part) (xs : List Arg) → map arg_of parts ≡ take 5 xs → length parts ≡ min 5 (length xs)
-kept_is parts xs e = sym (length-map parts arg_of) ∙ ap length e ∙ length-take 5 xs
+pub take_again : {A : Type 0} (n : ℕ) (xs ys : List A) → take n (take n xs ++ ys) ≡ take n (xs ++ ys)
+take_again zero xs ys = refl
+take_again (suc n) [] ys = refl
+take_again (suc n) (x ∷ xs) ys = ap (λ l. x ∷ l) (take_again n xs ys)
 
-pub gather_more : {line bs rest w : List ℕ} {old new : List Part} {count : ℕ} {t : Token} → Gathered line w old count bs → More line bs t rest → length old < 5 → new ≡ old ++ t.part ∷ [] → Gathered line w new (count + 1) rest
-gather_more {line} {bs} {rest} {w} {old} {new} {t} g m room push =
-    let all : length g.args < 5 = omega (arith, kept_is old g.args g.kept) in
+pub gather : {line bs rest w : List ℕ} {old new : List Part} {count : ℕ} {t : Token} → Gathered line w old count bs → More line bs t rest → new ≡ take 5 (old ++ t.part ∷ []) → Gathered line w new (count + 1) rest
+gather {line} {bs} {rest} {w} {old} {new} {count} {t} g m is =
+    let more : map arg_of (old ++ t.part ∷ []) ≡ take 5 g.args ++ arg_of t.part ∷ [] = map_push arg_of old t.part ∙ ap (λ l. l ++ arg_of t.part ∷ []) g.kept in
     record {
       args = g.args ++ arg_of t.part ∷ [];
       counted = simp length_push (omega (arith, g.counted));
-      kept = ap (map arg_of) push ∙ map_push arg_of old t.part
-          ∙ ap (λ l. l ++ arg_of t.part ∷ []) (g.kept ∙ take_all 5 g.args (omega arith))
-          ∙ sym (take_all 5 (g.args ++ arg_of t.part ∷ []) (simp length_push (omega arith)));
-      sound = subst (All SoundPart) (sym push) (All-push SoundPart old t.part g.sound m.sound);
-      reached = read_on_lem line bs rest w g.args t g.reached m;
-    }
-
--- a surplus argument is counted only
-pub gather_past : {line bs rest w : List ℕ} {parts : List Part} {count : ℕ} {t : Token} → Gathered line w parts count bs → More line bs t rest → 5 ≤ length parts → Gathered line w parts (count + 1) rest
-gather_past {line} {bs} {rest} {w} {parts} {t} g m full =
-    let enough : 5 ≤ length g.args = omega (arith, kept_is parts g.args g.kept) in
-    record {
-      args = g.args ++ arg_of t.part ∷ [];
-      counted = simp length_push (omega (arith, g.counted));
-      kept = g.kept ∙ sym (take-append-le 5 g.args (arg_of t.part ∷ []) enough);
-      sound = g.sound;
+      kept = ap (map arg_of) is ∙ sym (take-map arg_of 5 (old ++ t.part ∷ [])) ∙ ap (take 5) more ∙ take_again 5 g.args (arg_of t.part ∷ []);
+      sound = subst (All SoundPart) (sym is) (All-take SoundPart 5 _ (All-push SoundPart old t.part g.sound m.sound));
       reached = read_on_lem line bs rest w g.args t g.reached m;
     }
 

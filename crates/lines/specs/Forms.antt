@@ -1,17 +1,18 @@
 -- What reading a line as a form answers.
 use Rattle.std.specs.Prelude.{◌≡◌, ℕ, Bool, true, List, map, length, take, Ok, Err, Result}
-use Rattle.grammar.specs.Calls.{Misfit, sorts}
+use Rattle.grammar.specs.Calls.{Misfit}
 use Rattle.grammar.specs.Grammar.{Form}
-use Rattle.grammar.specs.Reads.{Is, Accepted, Refused, has_list}
-use Rattle.grammar.specs.declared.heads.Head.{Head}
-use Rattle.grammar.specs.declared.heads.Sort.{Sort}
+use Rattle.grammar.specs.Reads.{Is, Accepted, Refused}
+use Rattle.units.specs.declared.head.Head.{Head}
+use Rattle.units.specs.declared.head.Sort.{Sort}
 use Rattle.units.specs.declared.fault.Fault.{Fault}
-use Rattle.units.specs.declared.fault.Fault.TheVariants.{BadArgument, NoMemory}
+use Rattle.units.specs.declared.fault.Fault.TheVariants.{BadArgument}
 use Rattle.tokens.specs.Tokens.{arg_of}
-use Rattle.lines.specs.Arguments.{asks}
+use Rattle.lines.specs.Arguments.{values_of}
+use Rattle.units.specs.Calls.{spoken, with_values}
 use Rattle.lines.specs.declared.form.Parts.{Parts}
 
--- the line is a form with this word, so many arguments and these as the first five
+-- the line is a form with this word, so many arguments, and these as the first five
 pub record Found (line : List ℕ) (parts : Parts) : Type 0 where
   pub form : Form
   pub is : Is line form
@@ -35,8 +36,6 @@ abbrev pub Tells : (Head → Bool → Type 0) → (Head → Bool) → Type 0
 Tells gives heads = (h : Head) (b : Bool) → gives h b → b ≡ heads h
 
 -- The head is wanted, and the line is what it asks for with the arguments of these parts.
--- Only want of memory for a list can still refuse the line.
 pub record Fitting (wanted : Head → Bool) (line : List ℕ) (h : Head) (parts : Parts) : Type 0 where
   pub taken : wanted h ≡ true
-  pub accepted : Accepted line (asks h (map arg_of parts.args.items))
-  pub memory : has_list (sorts h) ≡ true → Refused wanted line NoMemory
+  pub accepted : Accepted line (spoken (with_values h (values_of parts.args.items)))

@@ -3,8 +3,8 @@ ghost use Rattle.std.specs.Prelude.{◌≡◌, map, MatchOption};
 ghost use Rattle.grammar.specs.Calls.{Misfit};
 ghost use Rattle.lines.specs.Arguments.{part_sort};
 
-use grammar::heads::Sort;
 use tokens::token::Part;
+use units::head::Sort;
 
 /// A word goes as a number, which no form holds.
 fn sort_of(part: Part) -> Sort

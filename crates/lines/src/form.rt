@@ -3,16 +3,16 @@ mod reads;
 
 ghost use Rattle.std.specs.Prelude.{◌≡◌, map, MatchOption, ◌≢◌};
 ghost use Rattle.std.specs.List.{All};
-ghost use Rattle.grammar.specs.Calls.{name, sorts};
+ghost use Rattle.units.specs.Heads.{name, sorts};
 ghost use Rattle.tokens.specs.Tokens.{SoundPart};
 
 use super::arguments::misfit;
 use arrayvec::ArrayVec;
-use grammar::heads::Head;
 use grammar::line::LONGEST_LINE;
 pub use reads::read_form;
 use tokens::token::Part;
 use units::fault::Fault;
+use units::head::Head;
 
 /// The longest line that is read.
 pub const MOST_BYTES: usize = LONGEST_LINE;

@@ -3,5 +3,6 @@
 
 mod arguments;
 pub mod form;
+pub mod lists;
 pub mod read;
 mod values;

@@ -1,17 +1,18 @@
-//! The numbers that the arguments of a form write.
-ghost use Rattle.std.specs.Prelude.{◌≡◌, [], map, IfOk, MatchResult};
+//! What the arguments of a form say.
+ghost use Rattle.std.specs.Prelude.{◌≡◌, ◌≤◌, [], map, length};
 ghost use Rattle.std.specs.List.{All};
+ghost use Rattle.units.specs.Calls.{list_in, number_in, opening_said, value_of, with_values};
+ghost use Rattle.units.specs.declared.head.Head.TheVariants.{Open};
 ghost use Rattle.grammar.specs.Calls.{read_on, pieces};
 ghost use Rattle.grammar.specs.Grammar.{Numeral};
-ghost use Rattle.units.specs.declared.fault.Fault.TheVariants.{NoMemory};
-ghost use Rattle.tokens.specs.Tokens.{arg_of};
-ghost use Rattle.lines.specs.Arguments.{number_at, list_at, first_numbers};
+ghost use Rattle.lines.specs.Arguments.{call_values, said_at, values_of};
 
 use super::form::Parts;
-use std::alloc::{AllocError, Global};
-use std::array;
+use super::lists::{Lists, Room};
+use arrayvec::ArrayVec;
 use tokens::token::Part;
-use units::fault::Fault;
+use units::call::{self, Opening, Value};
+use units::head::Head;
 
 /// The number that the digits write.
 fn value(digits: &[u8]) -> u64
@@ -21,18 +22,22 @@ fn value(digits: &[u8]) -> u64
     digits.iter().fold(0, |n, d| 10 * n + u64::from(*d - b'0'))
 }
 
-/// The numbers that stand with one space between.
-fn values(heap: Global, numbers: &[u8]) -> Result<Vec<u64>, AllocError>
-    requires { All Numeral (pieces [] numbers.now) }
-    ensures { IfOk result (λ v. v.items ≡ map (read_on 0) (pieces [] numbers.now)) }
+/// The numbers that stand with one space between, in this room.
+fn values<'r>(numbers: &[u8], room: &'r mut Room) -> &'r [u64]
+    requires numerals { All Numeral (pieces [] numbers.now) }
+    requires few { length (pieces [] numbers.now) ≤ 96 }
+    ensures { result.now ≡ map (read_on 0) (pieces [] numbers.now) }
 {
-    numbers.split(|b| *b == b' ').map(value).collect(heap)
+    let values = room.numbers.insert(ArrayVec::new());
+    // There is room for all of them.
+    let _added = values.extend(numbers.split(|b| *b == b' ').map(value));
+    values.as_slice()
 }
 
 impl Parts<'_> {
-    /// The number that the argument at this place is, or 0.
-    fn number_at(&self, place: usize) -> u64
-        ensures { result ≡ number_at (map arg_of self.now.args.items) place }
+    /// The number at this place: 0 where there is none.
+    fn number(&self, place: usize) -> u64
+        ensures { result ≡ number_in (said_at self.now.args.items place) }
     {
         match self.args.get(place) {
             Some(Part::Number(digits)) => value(digits),
@@ -40,20 +45,57 @@ impl Parts<'_> {
         }
     }
 
-    /// The numbers that the first four arguments are, and 0 for what is none.
-    pub(crate) fn numbers(&self) -> [u64; 4]
-        ensures { result ≡ first_numbers (map arg_of self.now.args.items) }
-    {
-        array::from_fn(|place| self.number_at(place))
-    }
-
-    /// The numbers of the list that the argument at this place is, or none.
-    pub(crate) fn list_at(&self, heap: Global, place: usize) -> Result<Vec<u64>, Fault>
-        ensures { MatchResult result (λ v. v.items ≡ list_at (map arg_of self.now.args.items) place) (λ e. e ≡ NoMemory) }
+    /// The numbers of the list at this place, in this room: none where there is no list.
+    fn list<'r>(&self, place: usize, room: &'r mut Room) -> &'r [u64]
+        ensures { result.now ≡ list_in (said_at self.now.args.items place) }
     {
         match self.args.get(place) {
-            Some(Part::List(numbers)) => Ok(values(heap, numbers)?),
-            _ => Ok(Vec::new(heap)),
+            Some(Part::List(numbers)) => values(numbers, room),
+            _ => &[],
+        }
+    }
+
+    /// What the argument at this place says, with the numbers of a list in this room: 0 where there is none.
+    fn value<'r>(&self, place: usize, room: &'r mut Room) -> Value<'r>
+        ensures { value_of result ≡ said_at self.now.args.items place }
+    {
+        match self.args.get(place) {
+            Some(Part::List(_)) => Value::List(self.list(place, room)),
+            _ => Value::Number(self.number(place)),
+        }
+    }
+
+    /// The head of a call with what its arguments say. Only the last of four may be a list.
+    #[tactic(auto, using(crate::proofs::Taking::value_at))]
+    pub(crate) fn call<'r>(&self, head: Head, room: &'r mut Room) -> call::Parts<'r>
+        ensures head { result.head ≡ head }
+        ensures values { map value_of result.values ≡ call_values (values_of self.now.args.items) }
+    {
+        call::Parts {
+            head,
+            values: [
+                Value::Number(self.number(0)),
+                Value::Number(self.number(1)),
+                Value::Number(self.number(2)),
+                self.value(3, room),
+            ],
+        }
+    }
+
+    /// The opening with these arguments.
+    #[tactic(auto, using(crate::proofs::Taking::value_at))]
+    pub(crate) fn opening<'r>(&self, lists: &'r mut Lists) -> Opening<'r>
+        ensures { opening_said result ≡ with_values Open (values_of self.now.args.items) }
+    {
+        let Lists {
+            kinds,
+            counts,
+            installed,
+        } = lists;
+        Opening {
+            kinds: self.list(0, kinds),
+            counts: self.list(1, counts),
+            installed: self.list(2, installed),
         }
     }
 }

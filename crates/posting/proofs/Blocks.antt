@@ -1,14 +1,13 @@
 -- A station's generators in one block, taken from the pages one by one.
 use Rattle.std.proofs.Common.{◌≡◌, ℕ, zero, suc, ◌+◌, ◌-◌, ◌*◌, ◌<◌, ◌≤◌, List, [], ◌∷◌, ◌++◌, length, ℤ, sum, sym, refl, ap, ◌∙◌, arith}
 use Rattle.posting.specs.Amounts.{amounts_at}
-use Rattle.posting.specs.Sheets.{Sheet, load_at, loads_at, loads_from, weights_at}
+use Rattle.posting.specs.Days.{StationDay, weights_at}
+use Rattle.posting.specs.Sheets.{Sheet, load_at, loads_at, loads_from}
 use Rattle.share.specs.declared.amounts.Amounts.{Amounts}
-use Rattle.posting.specs.declared.members.Members.{Members}
 use Rattle.share.specs.Keys.{NeverVanish, totals}
 use Rattle.share.specs.Loads.{loads}
 use Rattle.share.specs.Shares.{shares}
 use Rattle.share.specs.declared.generator.Generator.{Generator}
-use Rattle.share.specs.declared.load.Load.{Load}
 use Rattle.std.proofs.lemmas.List.{length-map}
 use Rattle.std.proofs.lemmas.List.Sums.{sum_by-cons}
 use Rattle.std.specs.List.{AllByRecursion}
@@ -44,11 +43,11 @@ module _ (s : Sheet) (b : ℕ) where
   built g (suc n) = (omega arith, built (g + 1) n)
 
 -- a key's weights for a block do not all vanish
-pub block_alive : (w : Load → Load → ℕ) → NeverVanish w
-    → (s : Sheet) (m : Members) (b : ℕ) → 0 < sum (weights_at w s m b)
-block_alive w alive s m b =
-    let some : 0 < length (loads_at s m b) = rw length_loads (omega arith) in
-    alive (loads_at s m b) some (built s b m.first m.count)
+pub block_alive : (d : StationDay) → NeverVanish d.rules.weighs → (b : ℕ) → 0 < sum (weights_at d b)
+block_alive d alive b =
+    let m = d.members in
+    let some : 0 < length (loads_at d.sheet m b) = rw length_loads (omega arith) in
+    alive (loads_at d.sheet m b) some (built d.sheet b m.first m.count)
 
 pub same_amounts : {a b c d : ℤ} → a ≡ b → c ≡ d → ◌≡◌ {A = Amounts} (record { money = a; energy = c }) (record { money = b; energy = d })
 same_amounts p q = cc

@@ -1,33 +1,71 @@
 -- A station's day: its figures of each block, and what each generator gets of the 96 blocks.
-use Rattle.std.specs.Prelude.{◌≡◌, ℕ, zero, suc, ◌+◌, ◌-◌, ◌<◌, Bool, cond, ◌&&◌, List, [], ◌∷◌, length, ℤ, pos, ◌+ℤ◌, nat_le, nat_lt, slice_index_or}
+use Rattle.std.specs.Prelude.{◌≡◌, ℕ, zero, suc, ◌+◌, ◌-◌, ◌<◌, ◌≤◌, Bool, cond, ◌&&◌, List, [], ◌∷◌, length, ℤ, pos, ◌+ℤ◌, nat_le, nat_lt, slice_index_or}
 use Rattle.posting.specs.Amounts.{no_amounts, with_amounts}
-use Rattle.posting.specs.Sheets.{Sheet, installed_of, query_at, deviation_at, weights_at}
+use Rattle.share.specs.Rules.{Rules, rules_of}
+use Rattle.posting.specs.Sheets.{Sheet, installed_of, loads_at, query_of, sheet_of}
 use Rattle.posting.specs.declared.account.Account.{Account}
-use Rattle.share.specs.declared.amounts.Amounts.{Amounts}
+use Rattle.posting.specs.declared.day.Day.{Day}
+use Rattle.posting.specs.declared.day.DaySums.{DaySums}
 use Rattle.posting.specs.declared.members.Members.{Members}
-use Rattle.share.specs.Shares.{shares}
-use Rattle.share.specs.declared.load.Load.{Load}
+use Rattle.share.specs.Keys.{weights}
+use Rattle.share.specs.Shares.{Fair, shares}
+use Rattle.share.specs.declared.amounts.Amounts.{Amounts}
+use Rattle.share.specs.declared.key.Key as key
+use Rattle.tariff.specs.Charges.{deviation_of}
 use Rattle.tariff.specs.declared.query.Query.{Query}
+use Rattle.tariff.specs.declared.tariff.Tariff as tariff
 
--- what a tariff charges the station t for the block b
-abbrev pub charge_at : (Query → ℤ) → Sheet → ℕ → Members → ℕ → ℤ
-charge_at charge s t m b = charge (query_at s t m b)
+-- what a station's day comes from: by which rules, from which pages, of which station and generators
+pub record StationDay : Type 0 where
+  pub rules : Rules
+  pub sheet : Sheet
+  pub station : ℕ
+  pub members : Members
 
--- what a station owes for the block b, and by how much it deviates from its schedule
-abbrev pub figures_at : (Query → ℤ) → Sheet → ℕ → Members → ℕ → Amounts
-figures_at charge s t m b = record { money = charge_at charge s t m b; energy = deviation_at s t m b }
+-- a day in the code
+abbrev pub the_day : {T K : Type 0} → tariff.Ghosts T → key.Ghosts K → Day T K → StationDay
+the_day prices keys d = record {
+  rules = rules_of prices keys d.tariff.now;
+  sheet = sheet_of d.pages;
+  station = d.station;
+  members = d.members;
+}
 
--- the share that a station's k-th generator gets of the charge for the block b
-abbrev pub money_share : (Query → ℤ) → (Load → Load → ℕ) → Sheet → ℕ → Members → ℕ → ℕ → ℤ
-money_share charge weighs s t m k b = slice_index_or (shares (charge_at charge s t m b) (weights_at weighs s m b)) k (pos 0)
+-- what its tariff is asked in the block b
+abbrev pub query_at : StationDay → ℕ → Query
+query_at d b = query_of d.sheet.schedules d.station b (loads_at d.sheet d.members b)
+
+-- what the tariff charges for the block b
+abbrev pub charge_at : StationDay → ℕ → ℤ
+charge_at d b = d.rules.charge (query_at d b)
+
+-- by how much the station deviates from its schedule
+abbrev pub deviation_at : StationDay → ℕ → ℤ
+deviation_at d b = deviation_of (query_at d b)
+
+-- both
+abbrev pub figures_at : StationDay → ℕ → Amounts
+figures_at d b = record { money = charge_at d b; energy = deviation_at d b }
+
+-- the weights that split them
+abbrev pub weights_at : StationDay → ℕ → List ℕ
+weights_at d b = weights d.rules.weighs (loads_at d.sheet d.members b)
+
+-- the share that the k-th generator gets of the charge for the block b
+abbrev pub money_share : StationDay → ℕ → ℕ → ℤ
+money_share d k b = slice_index_or (shares (charge_at d b) (weights_at d b)) k (pos 0)
 
 -- the share that it gets of the deviation in the block b
-abbrev pub energy_share : (Load → Load → ℕ) → Sheet → ℕ → Members → ℕ → ℕ → ℤ
-energy_share weighs s t m k b = slice_index_or (shares (deviation_at s t m b) (weights_at weighs s m b)) k (pos 0)
+abbrev pub energy_share : StationDay → ℕ → ℕ → ℤ
+energy_share d k b = slice_index_or (shares (deviation_at d b) (weights_at d b)) k (pos 0)
 
 -- its shares of both
-abbrev pub share_at : (Query → ℤ) → (Load → Load → ℕ) → Sheet → ℕ → Members → ℕ → ℕ → Amounts
-share_at charge weighs s t m k b = record { money = money_share charge weighs s t m k b; energy = energy_share weighs s t m k b }
+abbrev pub share_at : StationDay → ℕ → ℕ → Amounts
+share_at d k b = record { money = money_share d k b; energy = energy_share d k b }
+
+-- the shares of both are fair
+abbrev pub FairAt : StationDay → ℕ → Type 0
+FairAt d b = Fair (charge_at d b) (weights_at d b) × Fair (deviation_at d b) (weights_at d b)
 
 -- f 0 to f (n - 1) added
 unfoldable pub sum_to : (ℕ → ℤ) → ℕ → ℤ
@@ -35,16 +73,31 @@ sum_to f zero = pos 0
 sum_to f (suc n) = sum_to f n +ℤ f n
 
 -- the charges of the 96 blocks added
-abbrev pub standing_charges : (Query → ℤ) → Sheet → ℕ → Members → ℤ
-standing_charges charge s t m = sum_to (charge_at charge s t m) 96
+abbrev pub standing_charges : StationDay → ℤ
+standing_charges d = sum_to (charge_at d) 96
 
 -- the deviations of the 96 blocks added
-abbrev pub day_deviation : Sheet → ℕ → Members → ℤ
-day_deviation s t m = sum_to (deviation_at s t m) 96
+abbrev pub day_deviation : StationDay → ℤ
+day_deviation d = sum_to (deviation_at d) 96
 
--- the shares that a station's k-th generator gets in the first n blocks, added
-abbrev pub shares_to : (Query → ℤ) → (Load → Load → ℕ) → Sheet → ℕ → Members → ℕ → ℕ → Amounts
-shares_to charge weighs s t m k n = record { money = sum_to (money_share charge weighs s t m k) n; energy = sum_to (energy_share weighs s t m k) n }
+-- the shares that the k-th generator gets in the first n blocks, added
+abbrev pub shares_to : StationDay → ℕ → ℕ → Amounts
+shares_to d k n = record { money = sum_to (money_share d k) n; energy = sum_to (energy_share d k) n }
+
+-- The charges of the first n blocks added, and the shares of each generator, which add up to the charges
+-- and to the deviations.
+pub record SumsTo (d : StationDay) (n : ℕ) (sums : DaySums) : Type 0 where
+  pub members : sums.members ≡ d.members
+  pub charges : sums.charges ≡ sum_to (charge_at d) n
+  pub each : (k : ℕ) → slice_index_or sums.each k no_amounts ≡ shares_to d k n
+  pub money : sum_to (λ k. (slice_index_or sums.each k no_amounts).money) d.members.count
+      ≡ sum_to (charge_at d) n
+  pub energy : sum_to (λ k. (slice_index_or sums.each k no_amounts).energy) d.members.count
+      ≡ sum_to (deviation_at d) n
+
+-- those of the day
+abbrev pub SumsOf : StationDay → DaySums → Type 0
+SumsOf d sums = SumsTo d 96 sums
 
 -- what stands past the end of a page of accounts
 abbrev pub no_account : Account
@@ -54,9 +107,9 @@ no_account = record { installed = 0; money = pos 0; energy = pos 0 }
 abbrev pub with_sums : List Amounts → ℕ → Account → Account
 with_sums sums k account = with_amounts (slice_index_or sums k no_amounts) account
 
--- the account of a station's k-th generator, once its shares of the 96 blocks are posted
-abbrev pub account_after : (Query → ℤ) → (Load → Load → ℕ) → Sheet → ℕ → Members → ℕ → Account → Account
-account_after charge weighs s t m k account = with_amounts (shares_to charge weighs s t m k 96) account
+-- the account of the k-th generator, once its shares of the 96 blocks are posted
+abbrev pub account_after : StationDay → ℕ → Account → Account
+account_after d k account = with_amounts (shares_to d k 96) account
 
 -- whether the number n is one of `count` numbers from `first` on
 abbrev pub among : ℕ → ℕ → ℕ → Bool
@@ -71,12 +124,18 @@ abbrev pub changed : ℕ → ℕ → (ℕ → Account → Account) → List Acco
 changed first count f accounts = changed_from first count f 0 accounts
 
 -- the page of accounts, once a station's day is posted
-abbrev pub posted_accounts : (Query → ℤ) → (Load → Load → ℕ) → Sheet → ℕ → Members → List Account → List Account
-posted_accounts charge weighs s t m accounts = changed m.first m.count (account_after charge weighs s t m) accounts
+abbrev pub posted_accounts : StationDay → List Account → List Account
+posted_accounts d accounts = changed d.members.first d.members.count (account_after d) accounts
+
+-- The page once the day is posted. If it goes so far, the station's accounts add up to the standing charges and to the deviations.
+pub record Posted (d : StationDay) (old new : List Account) : Type 0 where
+  pub accounts : new ≡ posted_accounts d old
+  pub money : d.members.first + d.members.count ≤ length old → sum_to (λ k. (slice_index_or new (d.members.first + k) no_account).money) d.members.count ≡ standing_charges d
+  pub energy : d.members.first + d.members.count ≤ length old → sum_to (λ k. (slice_index_or new (d.members.first + k) no_account).energy) d.members.count ≡ day_deviation d
 
 -- what is posted does not depend on the money and the energy that stood in the accounts before
 abbrev pub Afresh : Type 0
 Afresh =
-    (charge : Query → ℤ) (weighs : Load → Load → ℕ) (s : Sheet) (t : ℕ) (m : Members) (old other : List Account) → installed_of old ≡ installed_of other
-    → (k : ℕ) → k < m.count → m.first + k < length old
-    → slice_index_or (posted_accounts charge weighs s t m old) (m.first + k) no_account ≡ slice_index_or (posted_accounts charge weighs s t m other) (m.first + k) no_account
+    (d : StationDay) (old other : List Account) → installed_of old ≡ installed_of other
+    → (k : ℕ) → k < d.members.count → d.members.first + k < length old
+    → slice_index_or (posted_accounts d old) (d.members.first + k) no_account ≡ slice_index_or (posted_accounts d other) (d.members.first + k) no_account

@@ -1,13 +1,12 @@
 -- What the pages of a day hold, and a station's numbers in one block.
-use Rattle.std.specs.Prelude.{ℕ, zero, suc, ◌+◌, ◌*◌, min, List, [], ◌∷◌, map, ℤ, None, Option, slice_index, slice_index_or}
+use Rattle.std.specs.Prelude.{ℕ, zero, suc, ◌+◌, ◌*◌, min, List, [], ◌∷◌, map, None, Option, slice_index, slice_index_or}
 use Rattle.posting.specs.declared.account.Account.{Account}
 use Rattle.posting.specs.declared.members.Members.{Members}
 use Rattle.posting.specs.declared.pages.Pages.{Pages}
-use Rattle.share.specs.Keys.{totals, weights}
+use Rattle.share.specs.Keys.{totals}
 use Rattle.share.specs.Loads.{nearest_load}
 use Rattle.share.specs.declared.load.Load.{Load}
 use Rattle.std.specs.Option.{unwrap_or}
-use Rattle.tariff.specs.Charges.{deviation_of}
 use Rattle.tariff.specs.declared.query.Query.{Query}
 
 -- schedules, 96 a station; capacities and readings, 96 a generator; installed power, 1 a generator
@@ -20,12 +19,12 @@ pub record Sheet : Type 0 where
 abbrev pub installed_of : List Account → List ℕ
 installed_of accounts = map (λ a. a.installed) accounts
 
-abbrev pub sheet_of : Pages → List Account → Sheet
-sheet_of p accounts = record {
+abbrev pub sheet_of : Pages → Sheet
+sheet_of p = record {
   schedules = p.schedules.now;
   capacities = p.capacities.now;
   readings = p.readings.now;
-  installed = installed_of accounts;
+  installed = installed_of p.accounts.now;
 }
 
 -- what the station t has scheduled for the block b: no more than 6,400,000 kW
@@ -54,12 +53,3 @@ query_of schedules t b ls = record {
   actual = (totals ls).actual;
   capacity = (totals ls).capacity;
 }
-
-abbrev pub query_at : Sheet → ℕ → Members → ℕ → Query
-query_at s t m b = query_of s.schedules t b (loads_at s m b)
-
-abbrev pub deviation_at : Sheet → ℕ → Members → ℕ → ℤ
-deviation_at s t m b = deviation_of (query_at s t m b)
-
-abbrev pub weights_at : (Load → Load → ℕ) → Sheet → Members → ℕ → List ℕ
-weights_at weighs s m b = weights weighs (loads_at s m b)

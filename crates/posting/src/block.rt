@@ -2,14 +2,13 @@
 ghost use Rattle.std.specs.Prelude.{◌≡◌, ℕ, ◌≤◌, length, slice_index_or};
 ghost use Rattle.arrayvec.specs.ArrayVec.{array_vec_len};
 ghost use Rattle.posting.specs.Amounts.{amounts_at, BlockSized, no_amounts};
-ghost use Rattle.posting.specs.Days.{charge_at, figures_at, share_at};
-ghost use Rattle.posting.specs.Sheets.{deviation_at, loads_at, query_of, sheet_of, weights_at};
+ghost use Rattle.posting.specs.Days.{FairAt, figures_at, share_at, the_day, weights_at};
+ghost use Rattle.posting.specs.Sheets.{loads_at, query_of, sheet_of};
 ghost use Rattle.share.specs.Held.{held};
 ghost use Rattle.share.specs.Loads.{loads};
-ghost use Rattle.share.specs.Shares.{Fair, shares};
+ghost use Rattle.share.specs.Shares.{shares};
 ghost use Rattle.tariff.specs.Charges.{deviation_of};
 
-use crate::account::Account;
 use crate::amounts::Amounts;
 use crate::day::Day;
 use arrayvec::ArrayVec;
@@ -40,16 +39,15 @@ impl BlockShares {
     }
 }
 
-impl<T: Tariff, K> Day<'_, T, K> {
-    /// The station's generators in a block.
-    fn generators(&self, accounts: &[Account], block: u8) -> ArrayVec<Generator, GENERATORS>
-        ensures { loads result.items ≡ loads_at (sheet_of self.now.pages accounts.now) self.now.members block }
+impl<T: Tariff, K: Key> Day<'_, T, K> {
+    /// Puts the station's generators in a block into `all`, in the place of what it held.
+    fn gather(&self, block: u8, all: &mut ArrayVec<Generator, GENERATORS>)
+        ensures { loads all.new.items ≡ loads_at (sheet_of self.now.pages) self.now.members block }
     {
-        let mut generators = ArrayVec::new();
+        all.clear();
         for generator in self.members.numbers() {
-            generators.push(self.pages.generator_at(accounts, generator, block));
+            all.push(self.pages.generator_at(generator, block));
         }
-        generators
     }
 
     /// What the tariff is asked in a block.
@@ -82,38 +80,43 @@ impl<T: Tariff, K> Day<'_, T, K> {
     }
 
     /// The charge and the deviation of the station in a block. They depend on no key.
-    pub fn figures(&self, accounts: &[Account], block: u8) -> Amounts
-        ensures value { result ≡ figures_at (T.Tariff.charge_of self.now.tariff.now) (sheet_of self.now.pages accounts.now) self.now.station self.now.members block }
+    pub fn figures(&self, block: u8) -> Amounts
+        ensures value { result ≡ figures_at (the_day T.Tariff K.Key self.now) block }
         ensures sized { BlockSized result }
     {
-        let all = self.generators(accounts, block);
+        let mut all = ArrayVec::new();
+        self.gather(block, &mut all);
         let generators = Generators::of(&all).unwrap();
         self.figures_of(block, &generators)
     }
-}
 
-impl<T: Tariff, K: Key> Day<'_, T, K> {
     /// The charge and the deviation of the station in a block, and the weights that split them.
-    pub(crate) fn weighed(&self, accounts: &[Account], block: u8) -> (Amounts, Weights)
-        ensures figures { result.0 ≡ figures_at (T.Tariff.charge_of self.now.tariff.now) (sheet_of self.now.pages accounts.now) self.now.station self.now.members block }
-        ensures weights { held result.1 ≡ weights_at K.Key.weighs (sheet_of self.now.pages accounts.now) self.now.members block }
+    /// Its generators are put into `all`, so that one list can serve all blocks.
+    pub(crate) fn weighed(
+        &self,
+        block: u8,
+        all: &mut ArrayVec<Generator, GENERATORS>,
+    ) -> (Amounts, Weights)
+        ensures figures { result.0 ≡ figures_at (the_day T.Tariff K.Key self.now) block }
+        ensures weights { held result.1 ≡ weights_at (the_day T.Tariff K.Key self.now) block }
         ensures sized { BlockSized result.0 }
     {
-        let all = self.generators(accounts, block);
-        let generators = Generators::of(&all).unwrap();
+        self.gather(block, all);
+        let generators = Generators::of(all.as_slice()).unwrap();
         let figures = self.figures_of(block, &generators);
         (figures, Weights::of(self.key, &generators))
     }
 
     /// The charge and the deviation of the station in a block, and what each generator gets of them.
-    pub fn shares(&self, accounts: &[Account], block: u8) -> BlockShares
-        ensures figures { result.figures ≡ figures_at (T.Tariff.charge_of self.now.tariff.now) (sheet_of self.now.pages accounts.now) self.now.station self.now.members block }
+    pub fn shares(&self, block: u8) -> BlockShares
+        ensures figures { result.figures ≡ figures_at (the_day T.Tariff K.Key self.now) block }
         ensures count { array_vec_len result.each ≡ self.now.members.count }
-        ensures each { (k : ℕ) → slice_index_or result.each.items k no_amounts ≡ share_at (T.Tariff.charge_of self.now.tariff.now) K.Key.weighs (sheet_of self.now.pages accounts.now) self.now.station self.now.members k block }
-        ensures fair { Fair (charge_at (T.Tariff.charge_of self.now.tariff.now) (sheet_of self.now.pages accounts.now) self.now.station self.now.members block) (weights_at K.Key.weighs (sheet_of self.now.pages accounts.now) self.now.members block) × Fair (deviation_at (sheet_of self.now.pages accounts.now) self.now.station self.now.members block) (weights_at K.Key.weighs (sheet_of self.now.pages accounts.now) self.now.members block) }
+        ensures each { (k : ℕ) → slice_index_or result.each.items k no_amounts ≡ share_at (the_day T.Tariff K.Key self.now) k block }
+        ensures fair { FairAt (the_day T.Tariff K.Key self.now) block }
         ensures sized { BlockSized result.figures }
     {
-        let (figures, weights) = self.weighed(accounts, block);
+        let mut all = ArrayVec::new();
+        let (figures, weights) = self.weighed(block, &mut all);
         BlockShares::new(figures, &weights)
     }
 }

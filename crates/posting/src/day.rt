@@ -1,8 +1,7 @@
 //! A station's day: 96 blocks, posted to its generators' accounts.
-ghost use Rattle.std.specs.Prelude.{◌≡◌, ℕ, ◌+◌, ◌<◌, ◌≤◌, length, get_or, ◌+ℤ◌, slice_index_or, slice_set, unsigned_abs};
+ghost use Rattle.std.specs.Prelude.{◌≡◌, ℕ, ◌*◌, ◌<◌, ◌≤◌, length, get_or, ◌+ℤ◌, slice_index_or, slice_set, unsigned_abs};
 ghost use Rattle.posting.specs.Amounts.{amounts_at, no_amounts, plus, with_amounts, Within};
-ghost use Rattle.posting.specs.Days.{Afresh, changed, day_deviation, no_account, posted_accounts, shares_to, standing_charges, sum_to, with_sums};
-ghost use Rattle.posting.specs.Sheets.{sheet_of};
+ghost use Rattle.posting.specs.Days.{Afresh, changed, no_account, Posted, StationDay, SumsOf, SumsTo, the_day, with_sums};
 ghost use Rattle.share.specs.Held.{held};
 ghost use Rattle.share.specs.Shares.{shares};
 
@@ -10,6 +9,7 @@ use crate::account::Account;
 use crate::amounts::{Amounts, add};
 use crate::members::Members;
 use crate::pages::Pages;
+use arrayvec::ArrayVec;
 use share::key::Key;
 use share::weights::Weights;
 use tariff::tariff::Tariff;
@@ -25,26 +25,22 @@ pub struct Day<'a, T, K> {
     pub pages: Pages<'a>,
 }
 
-/// A station's charges of a day, and what each generator gets of them and of the deviations.
+/// The charges of a station's day, and what each of its generators gets of them and of the deviations.
 #[derive(Clone, Copy)]
-struct DaySums {
-    charges: i64,
-    each: [Amounts; GENERATORS],
+pub struct DaySums {
+    pub members: Members,
+    pub charges: i64,
+    pub each: [Amounts; GENERATORS],
 }
 
-/// Adds a share of money and of energy to each generator's sums.
-fn add_each(sums: &mut [Amounts; GENERATORS], money: &[i64], energy: &[i64])
-    requires few { length money.now ≤ 32 }
-    requires same { length energy.now ≡ length money.now }
-    requires room { (k : ℕ) → Within 9000000000000 (slice_index_or sums.old k no_amounts) }
-    requires small { (k : ℕ) → Within 64000000000 (amounts_at money.now energy.now k) }
-    ensures { (k : ℕ) → slice_index_or sums.new k no_amounts ≡ plus (slice_index_or sums.old k no_amounts) (amounts_at money.now energy.now k) }
+/// Adds a share to a generator's sums.
+fn add_to(sums: &mut [Amounts; GENERATORS], k: usize, share: Amounts)
+    requires inside { k < 32 }
+    requires room { Within 9000000000000 (slice_index_or sums.old k no_amounts) }
+    requires small { Within 64000000000 share }
+    ensures { sums.new ≡ slice_set sums.old k (plus (slice_index_or sums.old k no_amounts) share) }
 {
-    // By number, since a proof knows nothing of the sums after a walk through `iter_mut().zip(..)`.
-    for (k, &money) in money.iter().enumerate() {
-        let energy = energy[k];
-        add(&mut sums[k], Amounts { money, energy });
-    }
+    add(&mut sums[k], share);
 }
 
 /// Adds what each generator gets of a block's figures to its shares of the blocks before.
@@ -53,9 +49,16 @@ fn add_shares(sums: &mut [Amounts; GENERATORS], figures: Amounts, weights: &Weig
     requires small { Within 64000000000 figures }
     ensures { (k : ℕ) → slice_index_or sums.new k no_amounts ≡ plus (slice_index_or sums.old k no_amounts) (amounts_at (shares figures.money (held weights.now)) (shares figures.energy (held weights.now)) k) }
 {
-    let money = weights.split(figures.money);
-    let energy = weights.split(figures.energy);
-    add_each(sums, money.as_slice(), energy.as_slice());
+    let mut money = weights.splitter(figures.money);
+    let mut energy = weights.splitter(figures.energy);
+    // By number, since a proof knows nothing of the sums after a walk through `iter_mut().zip(..)`.
+    for (k, &weight) in weights.each().iter().enumerate() {
+        let share = Amounts {
+            money: money.share_of(weight),
+            energy: energy.share_of(weight),
+        };
+        add_to(sums, k, share);
+    }
 }
 
 /// Puts a generator's sums into its account, if the page goes so far.
@@ -78,35 +81,43 @@ fn post_sums(members: Members, sums: &[Amounts; GENERATORS], accounts: &mut [Acc
     }
 }
 
+impl DaySums {
+    /// Posts the day: the account of each of the station's generators becomes its sums, whatever stood there before.
+    pub fn post(&self, accounts: &mut [Account])
+        ensures { (d : StationDay) → SumsOf d self.now → Posted d accounts.old accounts.new }
+    {
+        post_sums(self.members, &self.each, accounts);
+    }
+}
+
 impl<T: Tariff, K: Key> Day<'_, T, K> {
-    /// The charges of the 96 blocks added, and each generator's shares of them and of the deviations.
-    fn sums(&self, accounts: &[Account]) -> DaySums
-        ensures charges { result.charges ≡ standing_charges (T.Tariff.charge_of self.now.tariff.now) (sheet_of self.now.pages accounts.now) self.now.station self.now.members }
-        ensures most { unsigned_abs result.charges ≤ 6144000000000 }
-        ensures each { (k : ℕ) → slice_index_or result.each k no_amounts ≡ shares_to (T.Tariff.charge_of self.now.tariff.now) K.Key.weighs (sheet_of self.now.pages accounts.now) self.now.station self.now.members k 96 }
+    /// The charges of so many blocks from the first on added, and each generator's shares of them and of the deviations.
+    fn sums_to(&self, blocks: u8) -> DaySums
+        requires { blocks ≤ 96 }
+        ensures sums { SumsTo (the_day T.Tariff K.Key self.now) blocks result }
+        ensures most { unsigned_abs result.charges ≤ blocks * 64000000000 }
     {
         let mut charges = 0;
         let mut each = [Amounts::default(); GENERATORS];
-        for block in 0..BLOCKS as u8 {
-            let (figures, weights) = self.weighed(accounts, block);
+        let mut all = ArrayVec::new();
+        for block in 0..blocks {
+            let (figures, weights) = self.weighed(block, &mut all);
             charges += figures.money;
             add_shares(&mut each, figures, &weights);
         }
-        DaySums { charges, each }
+        DaySums {
+            members: self.members,
+            charges,
+            each,
+        }
     }
 
-    /// Posts the day: each generator's account becomes its shares of the 96 blocks,
-    /// whatever stood there before, and the station's standing charges are returned.
-    pub fn post(&self, accounts: &mut [Account]) -> i64
-        ensures charges { result ≡ standing_charges (T.Tariff.charge_of self.now.tariff.now) (sheet_of self.now.pages accounts.old) self.now.station self.now.members }
-        ensures posted { accounts.new ≡ posted_accounts (T.Tariff.charge_of self.now.tariff.now) K.Key.weighs (sheet_of self.now.pages accounts.old) self.now.station self.now.members accounts.old }
-        ensures most { unsigned_abs result ≤ 6144000000000 }
-        ensures money { self.now.members.first + self.now.members.count ≤ length accounts.old → sum_to (λ k. (get_or accounts.new (self.now.members.first + k) no_account).money) self.now.members.count ≡ result }
-        ensures energy { self.now.members.first + self.now.members.count ≤ length accounts.old → sum_to (λ k. (get_or accounts.new (self.now.members.first + k) no_account).energy) self.now.members.count ≡ day_deviation (sheet_of self.now.pages accounts.old) self.now.station self.now.members }
+    /// The charges of the 96 blocks added, and each generator's shares of them and of the deviations, which add up to them.
+    pub fn sums(&self) -> DaySums
+        ensures sums { SumsOf (the_day T.Tariff K.Key self.now) result }
+        ensures most { unsigned_abs result.charges ≤ 6144000000000 }
     {
-        let sums = self.sums(accounts);
-        post_sums(self.members, &sums.each, accounts);
-        sums.charges
+        self.sums_to(BLOCKS as u8)
     }
 }
 

@@ -7,12 +7,13 @@ use share::generator::Generator;
 use share::load::Load;
 use units::limits::{BLOCKS, STATION_KW};
 
-/// Schedules, 96 a station; capacities and readings, 96 a generator. A reading is there or not.
+/// Schedules, 96 a station; capacities and readings, 96 a generator; accounts, 1 a generator. A reading is there or not.
 #[derive(Clone, Copy)]
 pub struct Pages<'a> {
     pub schedules: &'a [u32],
     pub capacities: &'a [u32],
     pub readings: &'a [Option<u32>],
+    pub accounts: &'a [Account],
 }
 
 /// What stands at a place of a page, or `past` past its end.
@@ -43,20 +44,15 @@ impl Pages<'_> {
     }
 
     /// A generator in a block, each number taken as the nearest one allowed. A missing reading counts as zero.
-    pub(crate) fn generator_at(
-        &self,
-        accounts: &[Account],
-        generator: usize,
-        block: u8,
-    ) -> Generator
+    pub(crate) fn generator_at(&self, generator: usize, block: u8) -> Generator
         requires { generator < 512 }
-        ensures { result.load ≡ load_at (sheet_of self.now accounts.now) generator block }
+        ensures { result.load ≡ load_at (sheet_of self.now) generator block }
     {
         let at = BLOCKS * generator + usize::from(block);
         Generator::new(Load {
             actual: entry_or(self.readings, at, None).unwrap_or(0),
             capacity: entry_or(self.capacities, at, 0),
-            installed: installed_at(accounts, generator),
+            installed: installed_at(self.accounts, generator),
         })
     }
 }

@@ -4,11 +4,19 @@ use Rattle.quoting.specs.Quotes.{Quoted}
 use Rattle.quoting.specs.declared.quotation.Quotation.{Quotation}
 use Rattle.quoting.specs.declared.request.Request.{Request}
 use Rattle.share.specs.Loads.{loads}
+use Rattle.share.specs.Rules.{Rules}
 use Rattle.share.specs.declared.load.Load.{Load}
-use Rattle.std.specs.Prelude.{List}
+use Rattle.std.specs.Prelude.{ℕ, List}
 
 abbrev pub loads_of : Request → List Load
 loads_of q = loads q.generators.items
 
+-- The quote for what q asks, by its tariff and a key that weighs so.
+abbrev pub AnsweredBy : (Load → Load → ℕ) → Request → Quotation → Type 0
+AnsweredBy weighs q r =
+    let rules : Rules = record { charge = charge_by q.tariff; weighs = weighs } in
+    Quoted rules q.schedule q.generators.items r
+
+-- The same, by the key that it names.
 abbrev pub Answered : Request → Quotation → Type 0
-Answered q r = Quoted (charge_by q.tariff) (weighs_by q.key) q.schedule (loads_of q) r
+Answered q r = AnsweredBy (weighs_by q.key) q r

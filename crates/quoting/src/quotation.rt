@@ -1,9 +1,10 @@
 //! What a block costs, and who bears it.
 ghost use Rattle.quoting.specs.Layout.{generator_line, generator_lines, quotation_text, station_line};
-ghost use Rattle.quoting.specs.Quotes.{Quoted};
+ghost use Rattle.quoting.specs.Quotes.{asked, Quoted};
 ghost use Rattle.share.specs.Loads.{loads};
+ghost use Rattle.share.specs.Rules.{rules_of};
 ghost use Rattle.std.specs.Fmt.{WritesOnOk};
-ghost use Rattle.std.specs.Prelude.{Some};
+ghost use Rattle.std.specs.Prelude.{◌≡◌, Some};
 
 use arrayvec::ArrayVec;
 use share::amounts::Amounts;
@@ -26,6 +27,20 @@ pub struct Quotation {
     pub each: ArrayVec<Amounts, GENERATORS>,
 }
 
+/// What the tariff is asked of.
+fn query_for(schedule: u32, generators: &Generators) -> Query
+    ensures { result ≡ asked schedule (loads generators.now.each.now) }
+{
+    let station = generators.load();
+    Query {
+        station: 0,
+        block: 0,
+        schedule,
+        actual: station.actual,
+        capacity: station.capacity,
+    }
+}
+
 /// The quote for a schedule under any tariff and any key.
 pub fn quote_for<T: Tariff, K: Key>(
     tariff: &T,
@@ -33,16 +48,9 @@ pub fn quote_for<T: Tariff, K: Key>(
     schedule: u32,
     generators: &Generators,
 ) -> Quotation
-    ensures { Quoted (T.Tariff.charge_of tariff.now) K.Key.weighs schedule (loads generators.now.each.now) result }
+    ensures { Quoted (rules_of T.Tariff K.Key tariff.now) schedule generators.now.each.now result }
 {
-    let station = generators.load();
-    let query = Query {
-        station: 0,
-        block: 0,
-        schedule,
-        actual: station.actual,
-        capacity: station.capacity,
-    };
+    let query = query_for(schedule, generators);
     let owed = Amounts {
         money: tariff.charge(query),
         energy: query.deviation(),

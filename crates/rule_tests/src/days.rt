@@ -20,14 +20,15 @@ fn day_of_two(rt: HostRuntime) -> Result<(), Fail> {
     schedules[95] = 500;
     let mut readings = [Some(1000); 192];
     readings[95] = Some(0);
+    let mut accounts = [EMPTY; 3];
+    accounts[1].installed = 3000;
     let pages = Pages {
         schedules: &schedules,
         capacities: &[3000; 192],
         readings: &readings,
+        accounts: &accounts,
     };
     let members = Members::of(0, 2).ok_or("two generators")?;
-    let mut accounts = [EMPTY; 3];
-    accounts[1].installed = 3000;
     let day = Day {
         tariff: &Banded::From10,
         key: &UnitsKey,
@@ -35,8 +36,9 @@ fn day_of_two(rt: HostRuntime) -> Result<(), Fail> {
         members,
         pages,
     };
-    let charges = day.post(&mut accounts);
-    assert_eq!(rt; charges, 1250);
+    let sums = day.sums();
+    sums.post(&mut accounts);
+    assert_eq!(rt; sums.charges, 1250);
     assert_eq!(rt; accounts[1].energy, 500);
     assert_eq!(rt; accounts[2].money, 7);
     Ok(())

@@ -4,7 +4,7 @@ use Rattle.book.specs.Calls.{Answer, Does, closing, filing, issuing}
 use Rattle.book.specs.Opening.{View, opened_account, station_opened, opened_stations, view_of}
 use Rattle.book.specs.States.{State, nobody, station_at}
 use Rattle.book.specs.Stations.{filed_on, moved}
-use Rattle.book.specs.declared.station.Action.TheVariants.{File, Issue, Close}
+use Rattle.units.specs.declared.head.Head.TheVariants.{File, Issue, Close}
 use Rattle.book.specs.declared.station.Station.{Station}
 use Rattle.posting.specs.Sheets.{installed_of}
 use Rattle.settle_bench.proofs.Settling.{still_sixteen, taken}

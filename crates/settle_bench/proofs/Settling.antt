@@ -1,23 +1,21 @@
 -- One station more is settled.
-use Rattle.std.proofs.Common.{◌≡◌, ℕ, ◌+◌, ◌-◌, ◌*◌, ◌<◌, ◌≤◌, Bool, true, false, cond, ◌≢◌, List, [], ◌∷◌, length, get_or, set, ℤ, pos, ◌+ℤ◌, Some, None, Ok, Option, sym, refl, ap, ◌∙◌, subst, ⊎_elim, arith}
+use Rattle.std.proofs.Common.{◌≡◌, ℕ, ◌+◌, ◌*◌, ◌<◌, ◌≤◌, ◌≢◌, List, length, get_or, set, ℤ, pos, ◌+ℤ◌, Some, None, Ok, Option, sym, refl, ap, ◌∙◌, subst, ⊎_elim, inl, arith}
 use Rattle.book.specs.Calls.{Answer, Does, posted, settling, unless}
-use Rattle.book.specs.States.{State, nobody, sheet_at, station_at}
+use Rattle.book.specs.States.{State, day_at, nobody, station_at}
 use Rattle.book.specs.Stations.{moved, settled_at}
-use Rattle.book.specs.declared.station.Action.TheVariants.{Settle}
+use Rattle.units.specs.declared.head.Head.TheVariants.{Settle}
 use Rattle.book.specs.declared.station.Station.{Station}
-use Rattle.posting.proofs.Accounts.{changed_at, changed_in, length_changed}
-use Rattle.posting.specs.Days.{account_after, among, changed_from, no_account, posted_accounts, standing_charges}
-use Rattle.posting.specs.Sheets.{Sheet, installed_of}
+use Rattle.posting.proofs.Accounts.{changed_in, changed_out, length_changed, powers_kept}
+use Rattle.posting.specs.Days.{StationDay, account_after, no_account, standing_charges}
+use Rattle.posting.specs.Sheets.{Sheet}
 use Rattle.posting.specs.declared.account.Account.{Account}
 use Rattle.posting.specs.declared.members.Members.{Members}
-use Rattle.settle_bench.specs.Full.{Done, DoneTo, Full, Placed, Sixteen, energy_of, from10, money_of}
+use Rattle.settle_bench.specs.Full.{Done, DoneTo, Full, Placed, Sixteen, bench_rules, day_by, energy_of, money_of}
 use Rattle.settle_bench.proofs.Writes.{same_shares}
 use Rattle.settle_bench.specs.Reports.{AllSettled, Reports}
 use Rattle.settle_bench.specs.declared.shares.Shares.{Shares}
-use Rattle.share.specs.Keys.{by_units}
 use Rattle.std.proofs.lemmas.List.{get_or-set_other, get_or-set_same, length-set}
-use Rattle.std.proofs.lemmas.Bool.{cases_eq, cases_lt, cond-false}
-use Rattle.std.proofs.lemmas.Bool.Decides.{nat_tests}
+use Rattle.std.proofs.lemmas.Bool.{cases_eq, cases_lt}
 use Rattle.units.specs.declared.fault.Fault.{Fault}
 use lib.IntN.{+ℤ_idr}
 
@@ -44,45 +42,32 @@ still_sixteen ss t x h members net old =
           (cases_eq u t);
     }
 
-before_first : (first count n : ℕ) → n < first → among first count n ≡ false
-before_first first count n h = grind (arith, nat_tests)
-
--- posting changes no installed power
-module _ (s : Sheet) (t : ℕ) (m : Members) where
-  same_power : (b : Bool) (k : ℕ) (a : Account) → (cond b (account_after from10 by_units s t m k a) a).installed ≡ a.installed
-  same_power true k a = refl
-  same_power false k a = refl
-
-  powers_from : (n : ℕ) (xs : List Account) → installed_of (changed_from m.first m.count (account_after from10 by_units s t m) n xs) ≡ installed_of xs
-  powers_from n [] = refl
-  powers_from n (x ∷ xs) =
-      let here = same_power (among m.first m.count n) (n - m.first) x in
-      let rest = powers_from (n + 1) xs in
-      cc
-
-  powers : (xs : List Account) → installed_of (posted_accounts from10 by_units s t m xs) ≡ installed_of xs
-  powers xs = powers_from 0 xs
-
 -- the station t is posted
-module _ (s : Sheet) (z : State) (t : ℕ) (h : t < 16) (full : Full s z) where
+module _ (s : Sheet) (z : State) (t : ℕ) (h : t < 16) (full : Full s z) (by : z.rules ≡ bench_rules) where
   abbrev x : Station
   x = moved Settle (station_at z t)
 
   abbrev e : State
-  e = posted from10 by_units t x z
+  e = posted t x z
+
+  abbrev day : StationDay
+  day = day_at z t x.members
+
+  day_is : day ≡ day_by s t x.members
+  day_is = let sheet = full.sheet in cc
 
   abbrev after_posting : ℕ → Account → Account
-  after_posting = account_after from10 by_units (sheet_at z) t x.members
+  after_posting = account_after day
 
   abbrev done_station : Station
-  done_station = settled_at (standing_charges from10 (sheet_at z) t x.members) x
+  done_station = settled_at (standing_charges day) x
 
   here : station_at e t ≡ done_station
   here = get_or-set_same z.stations t done_station nobody (rw full.stations.many h)
 
   still_full : Full s e
   still_full = record {
-    sheet = ap (λ (powers : List ℕ). record { schedules = z.schedules; capacities = z.capacities; readings = z.readings; installed = powers }) (powers (sheet_at z) t x.members z.accounts) ∙ full.sheet;
+    sheet = ap (λ (powers : List ℕ). record { schedules = z.schedules; capacities = z.capacities; readings = z.readings; installed = powers }) (powers_kept day z.accounts) ∙ full.sheet;
     accounts = length_changed x.members.first x.members.count after_posting z.accounts ∙ full.accounts;
     stations = still_sixteen z.stations t done_station h refl refl full.stations;
   }
@@ -93,11 +78,10 @@ module _ (s : Sheet) (z : State) (t : ℕ) (h : t < 16) (full : Full s z) where
       let ne : u ≢ t = λ q. omega arith in
       let same = sym (get_or-set_other z.stations t u done_station nobody ne) in
       let kept : (k : ℕ) → k < 32 → get_or e.accounts (32 * u + k) no_account ≡ get_or z.accounts (32 * u + k) no_account = λ k b.
-      let out : among x.members.first x.members.count (32 * u + k) ≡ false = before_first x.members.first x.members.count (32 * u + k) (omega (arith, (full.stations.placed t h).first)) in
-      changed_at x.members.first x.members.count after_posting z.accounts (32 * u + k) no_account (omega (arith, full.accounts))
-      ∙ cond-false (among x.members.first x.members.count (32 * u + k)) (after_posting (32 * u + k - x.members.first) (get_or z.accounts (32 * u + k) no_account)) (get_or z.accounts (32 * u + k) no_account) out in
+      changed_out x.members.first x.members.count after_posting z.accounts (32 * u + k) no_account (omega (arith, full.accounts))
+      (inl (omega (arith, (full.stations.placed t h).first))) in
       record {
-        charges = subst (λ (y : Station). y.charges ≡ standing_charges from10 s u y.members) same old.charges;
+        charges = subst (λ (y : Station). y.charges ≡ standing_charges (day_by s u y.members)) same old.charges;
         money = λ k b. ap (λ (a : Account). a.money) (kept k b) ∙ subst (λ (y : Station). (get_or z.accounts (32 * u + k) no_account).money ≡ money_of s u y.members k) same (old.money k b);
         energy = λ k b. ap (λ (a : Account). a.energy) (kept k b) ∙ subst (λ (y : Station). (get_or z.accounts (32 * u + k) no_account).energy ≡ energy_of s u y.members k) same (old.energy k b);
       }
@@ -106,23 +90,23 @@ module _ (s : Sheet) (z : State) (t : ℕ) (h : t < 16) (full : Full s z) where
   itself =
       let place = full.stations.placed t h in
       let m = x.members in
-      let shared : (k : ℕ) → k < 32 → get_or e.accounts (32 * t + k) no_account ≡ account_after from10 by_units s t m k (get_or z.accounts (32 * t + k) no_account) = λ k b.
-      subst (λ (n : ℕ). get_or e.accounts (n + k) no_account ≡ account_after from10 by_units s t m k (get_or z.accounts (n + k) no_account)) place.first
-      (subst (λ (y : Sheet). get_or e.accounts (m.first + k) no_account ≡ account_after from10 by_units y t m k (get_or z.accounts (m.first + k) no_account)) full.sheet
-      (changed_in m.first m.count (account_after from10 by_units (sheet_at z) t m) z.accounts k no_account (omega (arith, place.count)) (omega (arith, place.first, full.accounts)))) in
+      let shared : (k : ℕ) → k < 32 → get_or e.accounts (32 * t + k) no_account ≡ account_after (day_by s t m) k (get_or z.accounts (32 * t + k) no_account) = λ k b.
+      subst (λ (n : ℕ). get_or e.accounts (n + k) no_account ≡ account_after (day_by s t m) k (get_or z.accounts (n + k) no_account)) place.first
+      (subst (λ (y : StationDay). get_or e.accounts (m.first + k) no_account ≡ account_after y k (get_or z.accounts (m.first + k) no_account)) day_is
+      (changed_in m.first m.count after_posting z.accounts k no_account (omega (arith, place.count)) (omega (arith, place.first, full.accounts)))) in
       record {
-        charges = subst (λ (y : Station). y.charges ≡ standing_charges from10 s t y.members) (sym here) (ap (λ (y : Sheet). standing_charges from10 y t m) full.sheet);
+        charges = subst (λ (y : Station). y.charges ≡ standing_charges (day_by s t y.members)) (sym here) (ap standing_charges day_is);
         money = λ k b. ap (λ (a : Account). a.money) (shared k b) ∙ ap (λ (y : Station). money_of s t y.members k) (sym here);
         energy = λ k b. ap (λ (a : Account). a.energy) (shared k b) ∙ ap (λ (y : Station). energy_of s t y.members k) (sym here);
       }
 
-pub settle_more : (s : Sheet) (z after : State) (r : Answer) (t : ℕ) → t < 16 → DoneTo t s z → Does (settling from10 by_units t z) r after → r ≡ Ok tt → DoneTo (t + 1) s after
-settle_more s z after r t h old does ok =
-    subst (λ (y : State). DoneTo (t + 1) s y) (sym (taken _ z (e s z t h old.full) after r does ok)) (record {
-      full = still_full s z t h old.full;
+pub settle_more : (s : Sheet) (z after : State) (r : Answer) (t : ℕ) → t < 16 → z.rules ≡ bench_rules → DoneTo t s z → Does (settling t z) r after → r ≡ Ok tt → DoneTo (t + 1) s after
+settle_more s z after r t h by old does ok =
+    subst (λ (y : State). DoneTo (t + 1) s y) (sym (taken _ z (e s z t h old.full by) after r does ok)) (record {
+      full = still_full s z t h old.full by;
       done = λ u l. ⊎_elim
-          (λ (q : u < t). earlier s z t h old.full u q (old.done u q))
-          (λ (q : t ≤ u). subst (λ (n : ℕ). Done s (e s z t h old.full) n) (omega arith) (itself s z t h old.full))
+          (λ (q : u < t). earlier s z t h old.full by u q (old.done u q))
+          (λ (q : t ≤ u). subst (λ (n : ℕ). Done s (e s z t h old.full by) n) (omega arith) (itself s z t h old.full by))
           (cases_lt u t);
     })
 

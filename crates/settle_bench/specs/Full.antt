@@ -2,17 +2,21 @@
 use Rattle.std.specs.Prelude.{◌≡◌, ℕ, ◌+◌, ◌*◌, ◌<◌, Bool, IsTrue, List, length, ℤ, pos, slice_index_or}
 use Rattle.book.specs.States.{State, nobody, sheet_at, station_at}
 use Rattle.book.specs.declared.station.Station.{Station}
-use Rattle.posting.specs.Days.{energy_share, money_share, no_account, standing_charges, sum_to}
+use Rattle.posting.specs.Days.{StationDay, energy_share, money_share, no_account, standing_charges, sum_to}
+use Rattle.share.specs.Rules.{Rules}
 use Rattle.posting.specs.Sheets.{Sheet}
 use Rattle.posting.specs.declared.members.Members.{Members}
 use Rattle.share.specs.Keys.{by_units}
 use Rattle.tariff.specs.Bands.{banded_charge}
 use Rattle.tariff.specs.declared.banded.Banded.TheVariants.{From10}
-use Rattle.tariff.specs.declared.query.Query.{Query}
 
--- the tariff with bands from 10 percent
-abbrev pub from10 : Query → ℤ
-from10 = banded_charge From10
+-- the tariff with bands from 10 percent, and the key by units
+abbrev pub bench_rules : Rules
+bench_rules = record { charge = banded_charge From10; weighs = by_units }
+
+-- the day of station t by these rules
+abbrev pub day_by : Sheet → ℕ → Members → StationDay
+day_by s t m = record { rules = bench_rules; sheet = s; station = t; members = m }
 
 -- the generators of the station t
 pub record Placed (t : ℕ) (m : Members) : Type 0 where
@@ -21,10 +25,10 @@ pub record Placed (t : ℕ) (m : Members) : Type 0 where
 
 -- what the k-th generator of the station t gets of the charges, and of the deviations
 abbrev pub money_of : Sheet → ℕ → Members → ℕ → ℤ
-money_of s t m k = sum_to (money_share from10 by_units s t m k) 96
+money_of s t m k = sum_to (money_share (day_by s t m) k) 96
 
 abbrev pub energy_of : Sheet → ℕ → Members → ℕ → ℤ
-energy_of s t m k = sum_to (energy_share by_units s t m k) 96
+energy_of s t m k = sum_to (energy_share (day_by s t m) k) 96
 
 -- sixteen stations, each with its generators, that have neither paid nor drawn
 pub record Sixteen (stations : List Station) : Type 0 where
@@ -40,7 +44,7 @@ pub record Full (s : Sheet) (z : State) : Type 0 where
 
 -- the charges of the station t stand, and its generators have their shares
 pub record Done (s : Sheet) (z : State) (t : ℕ) : Type 0 where
-  pub charges : (station_at z t).charges ≡ standing_charges from10 s t (station_at z t).members
+  pub charges : (station_at z t).charges ≡ standing_charges (day_by s t (station_at z t).members)
   pub money : (k : ℕ) → k < 32 → (slice_index_or z.accounts (32 * t + k) no_account).money ≡ money_of s t (station_at z t).members k
   pub energy : (k : ℕ) → k < 32 → (slice_index_or z.accounts (32 * t + k) no_account).energy ≡ energy_of s t (station_at z t).members k
 

@@ -5,7 +5,7 @@ use Rattle.book.specs.Stations.{due_of}
 use Rattle.posting.specs.Days.{no_account, standing_charges}
 use Rattle.posting.specs.Sheets.{Sheet}
 use Rattle.posting.specs.declared.members.Members.{Members}
-use Rattle.settle_bench.specs.Full.{Placed, energy_of, from10, money_of}
+use Rattle.settle_bench.specs.Full.{Placed, day_by, energy_of, money_of}
 use Rattle.settle_bench.specs.declared.shares.Shares.{Shares}
 
 abbrev pub nothing : Shares
@@ -20,7 +20,7 @@ pub record Reports (z : State) (dues : List ℤ) (shares : List Shares) : Type 0
 pub record StationSettled (s : Sheet) (dues : List ℤ) (shares : List Shares) (t : ℕ) : Type 0 where
   pub members : Members
   pub placed : Placed t members
-  pub due : t < length dues → slice_index_or dues t (pos 0) ≡ standing_charges from10 s t members
+  pub due : t < length dues → slice_index_or dues t (pos 0) ≡ standing_charges (day_by s t members)
   pub share : (k : ℕ) → k < 32 → 32 * t + k < length shares → slice_index_or shares (32 * t + k) nothing ≡ record { money = money_of s t members k; energy = energy_of s t members k }
 
 abbrev pub AllSettled : Sheet → List ℤ → List Shares → Type 0

@@ -16,7 +16,7 @@ ghost use Rattle.tariff.specs.declared.banded.Banded.TheVariants.{From10};
 
 use book::{Book, Pages};
 pub use failure::Failure;
-use full::FullOpening;
+use full::full_opening;
 use posting::account::Account;
 use share::key::UnitsKey;
 pub use shares::Shares;
@@ -38,20 +38,22 @@ struct Day<'a> {
 }
 
 /// A book whose stations have filed, issued and closed, and have still to be settled.
-fn closed_book(
-    heap: Global,
-    full: &FullOpening,
-    pages: &mut Pages,
-) -> Result<Book<Banded, UnitsKey>, Fault>
+fn closed_book(installed: &[u64], pages: &mut Pages) -> Result<Book<Banded, UnitsKey>, Fault>
     ensures { IfOk result (λ b. (b.tariff ≡ From10) × Sixteen b.stations.items) }
 {
-    let mut book = Book::open(heap, Banded::From10, UnitsKey, &full.opening, pages)?;
+    let opening = full_opening(installed);
+    let mut book = Book::open(Banded::From10, UnitsKey, &opening, pages)?;
     for t in 0..STATIONS as u64 {
         book.file(pages, t, 0, 95, 0)?;
         book.issue(pages, t)?;
         book.close(pages, t)?;
     }
     Ok(book)
+}
+
+/// Installed powers, as an opening lists them.
+fn powers(heap: Global, installed: &[u32]) -> Result<Vec<u64>, AllocError> {
+    installed.iter().map(|kw| u64::from(*kw)).collect(heap)
 }
 
 /// A page on which every reading is there.
@@ -69,6 +71,7 @@ fn opened_accounts(heap: Global, installed: &[u32]) -> Result<Vec<Account>, Allo
 }
 
 /// Pages that hold the day's numbers.
+#[tactic(auto, using(crate::proofs::Opening::powers_opened))]
 fn day_pages(heap: Global, day: &Day) -> Result<Pages, AllocError>
     ensures { IfOk result (λ p. sheet_in p ≡ sheet_of day.now) }
 {
@@ -113,8 +116,7 @@ fn report(
 /// Opens a full book, and settles it where `settle` says so.
 /// The calls before the readings write to pages of their own, so that the day's numbers are laid out once.
 fn one_book(
-    heap: Global,
-    full: &FullOpening,
+    installed: &[u64],
     blank: &mut Pages,
     pages: &mut Pages,
     settle: bool,
@@ -122,7 +124,7 @@ fn one_book(
     requires { length pages.old.accounts.items ≡ 512 }
     ensures { IfOk result (λ b. Leaves settle (sheet_in pages.old) (state b pages.new)) }
 {
-    let mut book = closed_book(heap, full, blank)?;
+    let mut book = closed_book(installed, blank)?;
     if settle {
         settle_all(&mut book, pages)?;
     }
@@ -132,7 +134,7 @@ fn one_book(
 /// The last of `books` full books, each settled where `settle` says so.
 fn last_book(
     heap: Global,
-    full: &FullOpening,
+    installed: &[u64],
     pages: &mut Pages,
     books: usize,
     settle: bool,
@@ -143,7 +145,7 @@ fn last_book(
     let mut blank = Pages::new(heap, STATIONS as u8, ALL_GENERATORS as u16)?;
     let mut last = None;
     for _ in 0..books {
-        last = Some(one_book(heap, full, &mut blank, pages, settle)?);
+        last = Some(one_book(installed, &mut blank, pages, settle)?);
     }
     last.ok_or(Failure::NoBook)
 }
@@ -157,7 +159,7 @@ fn run(
     dues: &mut [i64],
     shares: &mut [Shares],
 ) -> Result<(), Failure>
-    ensures { OnOk result ((IsTrue settle → AllSettled (sheet_of day.now) dues.new shares.new)) }
+    ensures { OnOk result (IsTrue settle → AllSettled (sheet_of day.now) dues.new shares.new) }
 {
     let given = day.installed.len();
     if given != ALL_GENERATORS {
@@ -166,9 +168,9 @@ fn run(
             needed: ALL_GENERATORS as u64,
         }));
     }
-    let full = FullOpening::new(heap, day.installed)?;
+    let installed = powers(heap, day.installed)?;
     let mut pages = day_pages(heap, day)?;
-    let book = last_book(heap, &full, &mut pages, books, settle)?;
+    let book = last_book(heap, &installed, &mut pages, books, settle)?;
     report(&book, &pages, dues, shares)?;
     Ok(())
 }

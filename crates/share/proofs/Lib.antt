@@ -2,3 +2,4 @@ pub mod Parts
 pub mod Fairness
 pub mod Walks
 pub mod Splits
+pub mod Quotients

@@ -1,30 +1,35 @@
 -- A walk over weights that splits an amount, one share more.
-use Rattle.std.proofs.Common.{◌≡◌, ℕ, ◌+◌, ◌-◌, ◌*◌, ◌/◌, ◌<◌, ◌≤◌, List, length, get_or, take, ℤ, pos, ◌-ℤ◌, nat_abs, sum, sym, ap, ◌∙◌, arith}
+use Rattle.std.proofs.Common.{◌≡◌, ℕ, ◌+◌, ◌-◌, ◌*◌, ◌/◌, ◌<◌, min, List, length, get_or, take, ℤ, pos, nat_abs, sum, sym, ap, ◌∙◌, arith}
 use Rattle.share.proofs.Fairness.{part_grows, share_at}
 use Rattle.share.proofs.Parts.{under_less}
-use Rattle.share.specs.Shares.{part, shares, under}
-use Rattle.share.specs.declared.portion.Portion.{Portion}
-use Rattle.std.proofs.lemmas.List.Sums.{sum_by_more}
+use Rattle.share.specs.Shares.{next_share, shares, under}
+use Rattle.share.specs.declared.splitter.Splitter.{Splitter}
+use Rattle.std.proofs.lemmas.List.Sums.{sum_by-take-le, sum_by_more}
 
--- what a turn at the weight i knows, of the part `of` before it and the part `to` after it
-pub record Turn (ws : List ℕ) (i : ℕ) (of to : Portion) : Type 0 where
-  pub more : to.sum ≡ sum (take (i + 1) ws)
-  pub grows : of.part ≤ to.part
-  pub share : (m : ℤ) → of.magnitude ≡ nat_abs m → under m (to.part - of.part) ≡ get_or (shares m ws) i (pos 0)
+-- a share by the parts of the magnitude before and after its weight
+pub step : (m : ℤ) (n s x t before after : ℕ) → 0 < t → n ≡ nat_abs m → before ≡ n * s / t → after ≡ n * (s + x) / t → under m (after - before) ≡ next_share m t s x
+step m n s x t before after some size is next =
+    under_less m after before (omega (arith, part_grows n s x t some)) ∙ rw (next, is, size)
 
-pub turn : (ws : List ℕ) (i x : ℕ) (of to : Portion) → i < length ws → x ≡ get_or ws i 0 → of.sum ≡ sum (take i ws) → of.total ≡ sum ws
-    → to.magnitude ≡ of.magnitude → to.total ≡ of.total → to.sum ≡ of.sum + x → Turn ws i of to
-turn ws i x of to here read is all same total grown =
-    let more : to.sum ≡ sum (take (i + 1) ws) = omega (arith, sum_by_more (λ x. x) ws i 0 here) in
-    let before : of.part ≡ of.magnitude * of.sum / sum ws = of.rounded ∙ rw all in
-    let upto : to.part ≡ of.magnitude * (of.sum + x) / sum ws = to.rounded ∙ rw (same, grown, total, all) in
-    let up = part_grows of.magnitude of.sum x (sum ws) (omega arith) in
-    let grows : of.part ≤ to.part = omega arith in
-    record {
-      more = more;
-      grows = grows;
-      share = λ m e. under_less m _ _ grows
-          ∙ ap (λ n. under m n -ℤ under m of.part) (to.rounded ∙ rw (more, same, e, total, all))
-          ∙ ap (λ n. part m (sum (take (i + 1) ws)) (sum ws) -ℤ under m n) (of.rounded ∙ rw (is, e, all))
-          ∙ sym (share_at m ws i here);
-    }
+-- a splitter of m that has come to the weight i
+pub record SplitTo (m : ℤ) (ws : List ℕ) (i : ℕ) (s : Splitter) : Type 0 where
+  pub amount : s.amount ≡ m
+  pub total : s.total ≡ sum ws
+  pub sum_is : s.sum ≡ sum (take i ws)
+
+module _ (m : ℤ) (ws : List ℕ) (i x : ℕ) (of : Splitter) (at : SplitTo m ws i of) (here : i < length ws) (read : x ≡ get_or ws i 0) where
+  more : of.sum + x ≡ sum (take (i + 1) ws)
+  more = omega (arith, at.sum_is, sum_by_more (λ x. x) ws i 0 here)
+
+  -- no weight passes the total
+  whole : min x (of.total - of.sum) ≡ x
+  whole = omega (arith, more, at.total, sum_by-take-le (λ x. x) ws (i + 1))
+
+  share_here : next_share of.amount of.total of.sum x ≡ get_or (shares m ws) i (pos 0)
+  share_here = rw (more, at.sum_is, at.total, at.amount) (sym (share_at m ws i here))
+
+  pub split_share : next_share of.amount of.total of.sum (min x (of.total - of.sum)) ≡ get_or (shares m ws) i (pos 0)
+  split_share = ap (next_share of.amount of.total of.sum) whole ∙ share_here
+
+  pub split_more : (to : Splitter) → to.amount ≡ of.amount → to.total ≡ of.total → to.sum ≡ of.sum + min x (of.total - of.sum) → SplitTo m ws (i + 1) to
+  split_more to amount total sum_is = record { amount = amount ∙ at.amount; total = total ∙ at.total; sum_is = sum_is ∙ ap (λ y. of.sum + y) whole ∙ more }

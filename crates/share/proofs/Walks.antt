@@ -19,6 +19,8 @@ built : (gs : List Generator) → AllByRecursion (λ l. 0 < l.installed) (loads 
 built [] = tt
 built (g ∷ gs) = (omega arith, built gs)
 
-pub some_weight : (w : Load → Load → ℕ) → NeverVanish w
-    → (gs : List Generator) → 0 < length gs → 0 < sum (weights w (loads gs))
-some_weight w alive gs some = alive (loads gs) (rw length-map some) (built gs)
+-- the weights that a walk has pushed do not all vanish
+pub some_weight : (w : Load → Load → ℕ) → NeverVanish w → (gs : List Generator) → 0 < length gs
+    → (each : List ℕ) (total : ℕ) → total ≡ sum each → each ≡ weights w (loads gs) → 0 < total
+some_weight w alive gs some each total is all =
+    omega (arith, is, ap sum all, alive (loads gs) (rw length-map some) (built gs))

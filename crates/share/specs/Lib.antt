@@ -4,3 +4,4 @@ pub mod Keys
 pub mod Loads
 pub mod Shares
 pub mod Alive
+pub mod Rules

@@ -10,10 +10,14 @@ under (negsuc m) n = neg_ℤ (pos n)
 abbrev pub part : ℤ → ℕ → ℕ → ℤ
 part m s w = under m (unsigned_abs m * s / w)
 
+-- the share of a weight x that comes after others of the sum s, out of w in all
+abbrev pub next_share : ℤ → ℕ → ℕ → ℕ → ℤ
+next_share m w s x = part m (s + x) w -ℤ part m s w
+
 -- the shares of weights that come after others of the sum s, out of w in all
 abbrev pub shares_from : ℤ → ℕ → ℕ → List ℕ → List ℤ
 shares_from m w s [] = []
-shares_from m w s (x ∷ xs) = (part m (s + x) w -ℤ part m s w) ∷ shares_from m w (s + x) xs
+shares_from m w s (x ∷ xs) = next_share m w s x ∷ shares_from m w (s + x) xs
 
 -- the first k shares together are the part of m for the sum of the first k weights, out of the sum of all
 abbrev pub shares : ℤ → List ℕ → List ℤ

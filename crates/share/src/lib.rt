@@ -7,5 +7,6 @@ pub mod generators;
 pub mod key;
 pub mod load;
 mod magnitude;
-mod portion;
+mod quotient;
+pub mod splitter;
 pub mod weights;

@@ -2,11 +2,13 @@
 ghost use Rattle.std.specs.Prelude.{◌≡◌, ◌*◌, ◌/◌, ◌<◌, ◌≤◌, unsigned_abs};
 ghost use Rattle.share.specs.Shares.{under};
 
+use crate::quotient::quotient;
+
 /// Below this, a magnitude times a sum of weights fits 64 bits.
 const NARROW: u64 = 1 << 40;
 
 /// `magnitude * sum / total`, rounded down.
-pub(crate) fn part_of(magnitude: u64, sum: u32, total: u32) -> u64
+pub(crate) fn part_of(magnitude: u64, sum: u32, total: u32, inverse: u64) -> u64
     requires inside { sum ≤ total }
     requires some { 0 < total }
     requires few { total ≤ 6400000 }
@@ -14,7 +16,7 @@ pub(crate) fn part_of(magnitude: u64, sum: u32, total: u32) -> u64
     ensures within { result ≤ magnitude }
 {
     if magnitude < NARROW {
-        magnitude * u64::from(sum) / u64::from(total)
+        quotient(magnitude * u64::from(sum), u64::from(total), inverse)
     } else {
         (u128::from(magnitude) * u128::from(sum) / u128::from(total)) as u64
     }

@@ -15,6 +15,8 @@ use units::limits::GENERATORS;
 pub struct Weights {
     each: ArrayVec<u32, GENERATORS>,
     total: u32,
+    /// What guesses a quotient by `total`.
+    inverse: u64,
     ghost whole: { total ≡ sum each.items },
     ghost alive: { 0 < total },
     ghost small: { total ≤ 6400000 },
@@ -30,6 +32,7 @@ impl Clone for Weights {
         Ok(Weights {
             each: self.each.clone()?,
             total: self.total,
+            inverse: self.inverse,
         })
     }
 }

@@ -4,8 +4,8 @@ use Rattle.std.specs.List.{list_all, position_or_len}
 use Rattle.std.proofs.lemmas.Bool.Decides.{nat_tests}
 use Rattle.std.proofs.lemmas.List.Sums.{sum_by-cons}
 use Rattle.grammar.proofs.Exactly.{name_word}
-use Rattle.grammar.specs.Calls.{name}
-use Rattle.grammar.specs.declared.heads.Head.{Head}
+use Rattle.units.specs.Heads.{name}
+use Rattle.units.specs.declared.head.Head.{Head}
 use Rattle.spell.specs.Causes.{misfit}
 use Rattle.spell.specs.Words.{held_word, room, rooms, line_room}
 use Rattle.spell.specs.declared.words.Word.{Word}

@@ -7,7 +7,8 @@ use Rattle.std.proofs.lemmas.Bool.Decides.{Decides-and, Decides-ltb, nat_tests}
 use Rattle.units.specs.declared.call.Call.{Call}
 use Rattle.units.specs.declared.call.Opening.{Opening}
 use Rattle.units.specs.declared.fault.Fault.{Fault}
-use Rattle.grammar.specs.Calls.{Value, one, many, Asked, asked, opens, Held, Small, form}
+use Rattle.grammar.specs.Calls.{Held, Small, form}
+use Rattle.units.specs.Calls.{Value, one, many, Asked, asked, opens}
 use Rattle.grammar.specs.Grammar.{spelled}
 use Rattle.grammar.specs.Laws.{Exact}
 use Rattle.grammar.specs.Reads.{Accepted, ReadsCall, ReadsOpening}

@@ -2,4 +2,5 @@ pub mod Answering
 pub mod Holding
 pub mod Lawful
 pub mod Laying
+pub mod Speaking
 pub mod Texts

@@ -2,7 +2,8 @@
 use Rattle.std.specs.Prelude.{◌≡◌, [], ◌∷◌, ◌++◌, pos, negsuc, Ok, Err, codes}
 use Rattle.units.specs.declared.fault.Fault.TheVariants.{DrawAboveDue}
 use Rattle.units.specs.declared.call.Call.TheVariants.{Pay}
-use Rattle.grammar.specs.Calls.{Asked, one, many, asked, form}
+use Rattle.grammar.specs.Calls.{form}
+use Rattle.units.specs.Calls.{Asked, one, many, asked}
 use Rattle.grammar.specs.Grammar.{spelled}
 use Rattle.spell.specs.Answers.{answer_text}
 use Rattle.spell.specs.Statements.{statement_text}

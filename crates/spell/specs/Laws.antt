@@ -1,26 +1,25 @@
 -- Spelling and reading undo each other.
 --
 -- That two calls are the same is said of what they ask for: of a list's memory nothing is said.
-use Rattle.std.specs.Prelude.{◌≡◌, ℕ, ◌≤◌, true, List, map, length, take, Ok, Err, Result}
+use Rattle.std.specs.Prelude.{◌≡◌, ℕ, ◌≤◌, List, length, take, Ok, Err, Result}
 use Rattle.std.specs.List.{AllByRecursion}
 use Rattle.units.specs.declared.call.Call.{Call}
 use Rattle.units.specs.declared.call.Opening.{Opening}
 use Rattle.units.specs.declared.fault.Fault.{Fault}
-use Rattle.units.specs.declared.fault.Fault.TheVariants.{NoMemory}
-use Rattle.grammar.specs.Calls.{Asked, asked, opens, Held, form}
+use Rattle.grammar.specs.Calls.{Held, form}
+use Rattle.units.specs.Calls.{Asked, asked, opens}
 use Rattle.grammar.specs.Grammar.{spelled}
-use Rattle.grammar.specs.Laws.{value_sort}
-use Rattle.grammar.specs.Reads.{has_list, most_bytes, ReadsCall, ReadsOpening}
+use Rattle.grammar.specs.Reads.{most_bytes, ReadsCall, ReadsOpening}
 use Rattle.spell.specs.Pages.{wrote, onto}
 use Rattle.spell.specs.Spelling.{spelling}
 
 -- The laws are the same of calls and of openings: X is either, `asks` is what it asks for, and `Reads` relates a line
 -- to what reading it answers.
 
--- an answer to the line that spells x: x again or, where x holds a list, that there is no memory
+-- an answer to the line that spells x: x again
 abbrev pub Same : (X : Type 0) → (X → Asked) → X → Result X Fault → Type 0
 Same X asks x (Ok y) = asks y ≡ asks x
-Same X asks x (Err e) = (e ≡ NoMemory) × (has_list (map value_sort (asks x).values) ≡ true)
+Same X asks x (Err e) = ⊥
 
 -- what was written of x on a page reads as x
 abbrev pub ReadBack : (X : Type 0) → (X → Asked) → (List ℕ → Result X Fault → Type 0) → Type 0

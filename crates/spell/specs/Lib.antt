@@ -4,5 +4,6 @@ pub mod Examples
 pub mod Laws
 pub mod Pages
 pub mod Spelling
+pub mod Spoken
 pub mod Statements
 pub mod Words

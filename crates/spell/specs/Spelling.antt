@@ -1,7 +1,8 @@
 -- A call as its line on a page.
 use Rattle.std.specs.Prelude.{ℕ, List, [], ◌∷◌, Option}
 use Rattle.units.specs.declared.fault.Fault.{Fault}
-use Rattle.grammar.specs.Calls.{Asked, form}
+use Rattle.grammar.specs.Calls.{form}
+use Rattle.units.specs.Calls.{Asked}
 use Rattle.grammar.specs.Grammar.{spelled}
 use Rattle.grammar.specs.Reads.{most_bytes}
 use Rattle.units.specs.Refusals.{first}

@@ -2,7 +2,7 @@
 use Rattle.std.specs.Prelude.{ℕ, ◌+◌, ◌*◌, ◌^◌, Bool, false, ◌&&◌, List, [], ◌∷◌, ◌++◌, map, length, decimal, nat_le, nat_lt}
 use Rattle.std.specs.List.{list_all, sum_by}
 use Rattle.std.specs.Fmt.{signed_decimal}
-use Rattle.grammar.specs.Calls.{Value, one, many}
+use Rattle.units.specs.Calls.{Value, one, many}
 use Rattle.grammar.specs.Grammar.{spaced}
 use Rattle.spell.specs.Pages.{bracketed}
 use Rattle.spell.specs.declared.words.Word.{Word}

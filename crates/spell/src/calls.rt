@@ -1,6 +1,7 @@
 //! Spells calls as lines.
 ghost use Rattle.std.specs.Prelude.{◌≡◌, ◌≤◌, ◌^◌, length};
-ghost use Rattle.grammar.specs.Calls.{asked, name, opens};
+ghost use Rattle.units.specs.Calls.{asked, opens, parts_said, spoken};
+ghost use Rattle.units.specs.Heads.{name};
 ghost use Rattle.spell.specs.Causes.{misfit};
 ghost use Rattle.spell.specs.Pages.{Lays, wrote};
 ghost use Rattle.spell.specs.Spelling.{spelling, spelling_of};
@@ -9,12 +10,11 @@ ghost use Rattle.spell.specs.Words.{held_word, line_room, line_text};
 use crate::held::all_held;
 use crate::page::long_enough;
 use crate::words::Word;
-use crate::words::Word::{List, Number};
 use crate::writer::Writer;
-use grammar::heads::Head;
 pub use grammar::line::LONGEST_LINE;
-use units::call::{Call, Opening};
+use units::call::{Call, Opening, Parts};
 use units::fault::Fault;
+use units::head::Head;
 
 /// The least page that a line is written to.
 pub const LINE_PAGE: usize = LONGEST_LINE;
@@ -46,71 +46,28 @@ fn spell(head: Head, words: &[Word], page: &mut [u8]) -> Result<usize, Fault>
     Ok(line(page, head, words))
 }
 
+/// Writes the head and its arguments as a line.
+#[tactic(auto, using(crate::proofs::Speaking::speaking))]
+fn speak(parts: &Parts, page: &mut [u8]) -> Result<usize, Fault>
+    ensures { wrote result page.new ≡ spelling (spoken (parts_said parts.now)) page.old }
+{
+    let words = Word::all_of(parts.values);
+    spell(parts.head, &words[0..parts.head.sorts().len()], page)
+}
+
 /// Writes the call's line to the front of the page, and answers its length. What stands behind it is kept.
 ///
 /// Refused are a page under 1,024 bytes, then an argument that no form holds, then a line over 1,024 bytes; the page
 /// then stays as it was.
-pub fn spell_call(call: &Call, page: &mut [u8]) -> Result<usize, Fault>
-    ensures { wrote result page.new ≡ spelling (asked call.now) page.old }
+pub fn spell_call(call: Call, page: &mut [u8]) -> Result<usize, Fault>
+    ensures { wrote result page.new ≡ spelling (asked call.entry) page.old }
 {
-    let head = Head::of(call);
-    match *call {
-        Call::File {
-            station: subject,
-            from,
-            to,
-            kw,
-        }
-        | Call::Declare {
-            generator: subject,
-            from,
-            to,
-            kw,
-        }
-        | Call::Read {
-            generator: subject,
-            from,
-            to,
-            kw,
-        } => {
-            let words = [Number(subject), Number(from), Number(to), Number(kw)];
-            spell(head, &words, page)
-        }
-        Call::Issue { station } | Call::Close { station } | Call::Settle { station } => {
-            spell(head, &[Number(station)], page)
-        }
-        Call::Revise {
-            station,
-            number,
-            notice,
-            ref values,
-        } => {
-            let values = List(values.as_slice());
-            let words = [Number(station), Number(number), Number(notice), values];
-            spell(head, &words, page)
-        }
-        Call::Correct {
-            generator,
-            block,
-            kw,
-        } => spell(head, &[Number(generator), Number(block), Number(kw)], page),
-        Call::Pay { station, amount } | Call::Draw { station, amount } => {
-            spell(head, &[Number(station), Number(amount)], page)
-        }
-    }
+    speak(&call.parts(), page)
 }
 
 /// Writes the line that opens a book, as `spell_call` does.
-pub fn spell_opening(opening: &Opening, page: &mut [u8]) -> Result<usize, Fault>
-    ensures { wrote result page.new ≡ spelling (opens opening.now) page.old }
+pub fn spell_opening(opening: Opening, page: &mut [u8]) -> Result<usize, Fault>
+    ensures { wrote result page.new ≡ spelling (opens opening.entry) page.old }
 {
-    spell(
-        Head::Open,
-        &[
-            List(opening.kinds.as_slice()),
-            List(opening.counts.as_slice()),
-            List(opening.installed.as_slice()),
-        ],
-        page,
-    )
+    speak(&opening.parts(), page)
 }

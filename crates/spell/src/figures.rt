@@ -13,7 +13,7 @@ pub struct StationLine {
 }
 
 /// What a generator's line says: its shares of the deviation and of the charges.
-#[derive(Clone, Copy, PartialEq, Eq, Debug)]
+#[derive(Clone, Copy, PartialEq, Eq, Debug, Default)]
 pub struct GeneratorLine {
     pub generator: u64,
     pub energy: i64,

@@ -1,4 +1,8 @@
 //! What stands in a line behind its head.
+ghost use Rattle.std.specs.Prelude.{◌≡◌, map};
+ghost use Rattle.spell.specs.Spoken.{word_of};
+
+use units::call::Value;
 
 /// A word of a line.
 #[derive(Clone, Copy, Debug)]
@@ -6,4 +10,23 @@ pub enum Word<'a> {
     Number(u64),
     Amount(i64),
     List(&'a [u64]),
+}
+
+impl<'a> Word<'a> {
+    /// The word of an argument.
+    pub fn of(value: Value<'a>) -> Word<'a>
+        ensures { result ≡ word_of value.entry }
+    {
+        match value {
+            Value::Number(number) => Word::Number(number),
+            Value::List(numbers) => Word::List(numbers),
+        }
+    }
+
+    /// The words of arguments.
+    pub fn all_of(values: [Value<'a>; 4]) -> [Word<'a>; 4]
+        ensures { result ≡ map word_of values.entry }
+    {
+        values.map(Word::of)
+    }
 }

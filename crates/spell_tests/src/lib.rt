@@ -14,20 +14,19 @@ mod tests {
     #[test]
     fn spells_calls(rt: HostRuntime) -> Result<(), Fail> {
         let mut page = vec![in rt.alloc(); b'.'; LINE_PAGE]?;
-        let values = vec![in rt.alloc(); 1000, 0]?;
         let call = Call::Revise {
             station: 0,
             number: 1,
             notice: 91,
-            values,
+            values: &[1000, 0],
         };
-        assert!(rt; matches!(spell_call(&call, page.as_mut_slice()), Ok(24)));
+        assert!(rt; matches!(spell_call(call, page.as_mut_slice()), Ok(24)));
         assert!(rt; page.as_slice().starts_with(b"(revise 0 1 91 (1000 0))."));
         let call = Call::Pay {
             station: 0,
             amount: 10_000_000_000_000,
         };
-        let answer = spell_call(&call, page.as_mut_slice());
+        let answer = spell_call(call, page.as_mut_slice());
         assert!(rt; matches!(answer, Err(Fault::BadArgument { position: 2 })));
         assert!(rt; page.as_slice().starts_with(b"(revise 0 1 91 (1000 0))."));
         Ok(())

@@ -1,1 +1,2 @@
+mod Again
 pub mod Sets

@@ -1,4 +1,6 @@
 pub mod Bits
+pub mod Calls
 pub mod Faults
+pub mod Heads
 pub mod Refusals
 pub mod Stations

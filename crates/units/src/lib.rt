@@ -4,5 +4,6 @@
 pub mod bits;
 pub mod call;
 pub mod fault;
+pub mod head;
 pub mod limits;
 pub mod station;

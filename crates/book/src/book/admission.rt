@@ -5,10 +5,11 @@ ghost use Rattle.book.specs.States.{admission, Admitted, Fit, Found, generator_a
 
 use super::Book;
 use crate::pages::Pages;
-use crate::station::{Action, Station};
+use crate::station::Station;
 use share::key::Key;
 use tariff::tariff::Tariff;
 use units::fault::{Fault, Page};
+use units::head::Head;
 use units::limits::BLOCKS;
 
 /// A page of `length` entries has the needed ones.
@@ -67,7 +68,7 @@ impl<T: Tariff, K: Key> Book<T, K> {
     }
 
     /// The station in the phase that the action leads to, if it takes the action.
-    pub(crate) fn admit(&self, pages: &Pages, t: u64, action: Action) -> Result<Station, Fault>
+    pub(crate) fn admit(&self, pages: &Pages, t: u64, action: Head) -> Result<Station, Fault>
         ensures { Checks (admission action t (state self.now pages.now)) (Admitted action t (state self.now pages.now)) result }
     {
         let station = self.find_station(pages, t)?;
@@ -97,7 +98,7 @@ impl<T: Tariff, K: Key> Book<T, K> {
         &self,
         pages: &Pages,
         generator: u64,
-        action: Action,
+        action: Head,
     ) -> Result<(usize, Station), Fault>
         ensures { Checks (generator_admission action generator (state self.now pages.now)) (Owned action generator (state self.now pages.now)) result }
     {

@@ -4,10 +4,10 @@ ghost use Rattle.book.specs.Calls.{closing, filing, issuing, Makes, revising};
 use super::Book;
 use crate::checks::in_blocks;
 use crate::pages::{Pages, entries};
-use crate::station::Action;
 use share::key::Key;
 use tariff::tariff::Tariff;
 use units::fault::Fault;
+use units::head::Head;
 use units::limits::{BLOCKS, STATION_KW};
 
 impl<T: Tariff, K: Key> Book<T, K> {
@@ -22,7 +22,7 @@ impl<T: Tariff, K: Key> Book<T, K> {
     ) -> Result<(), Fault>
         ensures { Makes (filing t from to kw) self.old pages.old self.new pages.new result }
     {
-        let mut station = self.admit(pages, t, Action::File)?;
+        let mut station = self.admit(pages, t, Head::File)?;
         let kw = in_blocks(from, to, STATION_KW, kw)?;
         station.file(from as u8, to as u8);
         self.put(t as usize, station, self.cash);
@@ -34,7 +34,7 @@ impl<T: Tariff, K: Key> Book<T, K> {
     pub fn issue(&mut self, pages: &mut Pages, t: u64) -> Result<(), Fault>
         ensures { Makes (issuing t) self.old pages.old self.new pages.new result }
     {
-        let station = self.admit(pages, t, Action::Issue)?;
+        let station = self.admit(pages, t, Head::Issue)?;
         let block = station.filed.first_absent();
         if block < BLOCKS as u32 {
             return Err(Fault::Unfiled {
@@ -57,7 +57,7 @@ impl<T: Tariff, K: Key> Book<T, K> {
     ) -> Result<(), Fault>
         ensures { Makes (revising t number notice values.now) self.old pages.old self.new pages.new result }
     {
-        let mut station = self.admit(pages, t, Action::Revise)?;
+        let mut station = self.admit(pages, t, Head::Revise)?;
         let (slot, schedule) = station.revision(number, notice, values)?;
         station.revise(slot);
         self.put(t as usize, station, self.cash);
@@ -69,7 +69,7 @@ impl<T: Tariff, K: Key> Book<T, K> {
     pub fn close(&mut self, pages: &mut Pages, t: u64) -> Result<(), Fault>
         ensures { Makes (closing t) self.old pages.old self.new pages.new result }
     {
-        let station = self.admit(pages, t, Action::Close)?;
+        let station = self.admit(pages, t, Head::Close)?;
         self.put(t as usize, station, self.cash);
         Ok(())
     }

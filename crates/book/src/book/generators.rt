@@ -4,10 +4,10 @@ ghost use Rattle.book.specs.Calls.{declaring, Makes, metering};
 use super::Book;
 use crate::checks::in_blocks;
 use crate::pages::{Pages, entries};
-use crate::station::Action;
 use share::key::Key;
 use tariff::tariff::Tariff;
 use units::fault::Fault;
+use units::head::Head;
 use units::limits::GENERATOR_KW;
 
 impl<T: Tariff, K: Key> Book<T, K> {
@@ -22,7 +22,7 @@ impl<T: Tariff, K: Key> Book<T, K> {
     ) -> Result<(), Fault>
         ensures { Makes (declaring generator from to kw) self.old pages.old self.new pages.new result }
     {
-        self.admit_generator(pages, generator, Action::Declare)?;
+        self.admit_generator(pages, generator, Head::Declare)?;
         let kw = in_blocks(from, to, pages.installed(generator as usize), kw)?;
         pages.capacities[entries(generator, from, to)].fill(kw);
         Ok(())
@@ -39,7 +39,7 @@ impl<T: Tariff, K: Key> Book<T, K> {
     ) -> Result<(), Fault>
         ensures { Makes (metering generator from to kw) self.old pages.old self.new pages.new result }
     {
-        self.admit_generator(pages, generator, Action::Read)?;
+        self.admit_generator(pages, generator, Head::Read)?;
         let kw = in_blocks(from, to, GENERATOR_KW, kw)?;
         pages.readings[entries(generator, from, to)].fill(Some(kw));
         Ok(())

@@ -9,7 +9,6 @@ use crate::opening::{
 };
 use crate::pages::Pages;
 use share::key::Key;
-use std::alloc::Global;
 use tariff::tariff::Tariff;
 use units::call::Opening;
 use units::fault::Fault;
@@ -19,17 +18,16 @@ fn openable(opening: &Opening, pages: &Pages) -> Result<usize, Fault>
     ensures { Checks (opening_fault opening.now pages.now) (Openable opening.now pages.now) result }
 {
     station_count(opening.kinds.len(), opening.counts.len())?;
-    let generators = sound_stations(&opening.kinds, &opening.counts)?;
+    let generators = sound_stations(opening.kinds, opening.counts)?;
     installed_count(opening.installed.len(), generators)?;
-    installed_range(&opening.installed)?;
+    installed_range(opening.installed)?;
     fitting_pages(pages, opening.kinds.len(), generators)?;
     Ok(generators)
 }
 
 impl<T: Tariff + Drop, K: Key + Drop> Book<T, K> {
-    /// Opens a book for a day that begins. Memory is taken before any page is written, so that a refusal changes nothing.
+    /// Opens a book for a day that begins. A refusal changes nothing.
     pub fn open(
-        heap: Global,
         tariff: T,
         key: K,
         opening: &Opening,
@@ -38,8 +36,8 @@ impl<T: Tariff + Drop, K: Key + Drop> Book<T, K> {
         ensures { Opens tariff key opening.now pages.old pages.new result }
     {
         let generators = openable(opening, pages)?;
-        let stations = lay_stations(heap, &opening.kinds, &opening.counts)?;
-        pages.begin(stations.len(), &opening.installed);
+        let stations = lay_stations(opening.kinds, opening.counts);
+        pages.begin(stations.len(), opening.installed);
         Ok(Book {
             tariff,
             key,

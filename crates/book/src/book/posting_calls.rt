@@ -7,18 +7,19 @@ ghost use Rattle.std.specs.Prelude.{◌≡◌};
 use super::Book;
 use crate::checks::{complete, in_blocks};
 use crate::pages::Pages;
-use crate::station::{Action, Station};
+use crate::station::Station;
 use posting::place::Place;
 use share::key::Key;
 use tariff::tariff::Tariff;
 use units::fault::Fault;
+use units::head::Head;
 use units::limits::{BLOCKS, GENERATOR_KW};
 
 impl<T: Tariff, K: Key> Book<T, K> {
     /// Station `t` becomes `station` with the charges that the pages give, and its generators get their shares.
     fn post(&mut self, pages: &mut Pages, t: usize, mut station: Station)
         requires { Changes self.old.stations.items t self.old.cash station self.old.cash }
-        ensures after { state self.new pages.new ≡ posted (T.Tariff.charge_of self.old.tariff) K.Key.weighs t station (state self.old pages.old) }
+        ensures after { state self.new pages.new ≡ posted t station (state self.old pages.old) }
         ensures tariff { self.new.tariff ≡ self.old.tariff }
         ensures key { self.new.key ≡ self.old.key }
     {
@@ -29,9 +30,9 @@ impl<T: Tariff, K: Key> Book<T, K> {
 
     /// The charges and shares of station `t` are posted.
     pub fn settle(&mut self, pages: &mut Pages, t: u64) -> Result<(), Fault>
-        ensures { Makes (settling (T.Tariff.charge_of self.old.tariff) K.Key.weighs t) self.old pages.old self.new pages.new result }
+        ensures { Makes (settling t) self.old pages.old self.new pages.new result }
     {
-        let station = self.admit(pages, t, Action::Settle)?;
+        let station = self.admit(pages, t, Head::Settle)?;
         complete(&pages.readings, station.members, None)?;
         self.post(pages, t as usize, station);
         Ok(())
@@ -45,9 +46,9 @@ impl<T: Tariff, K: Key> Book<T, K> {
         block: u64,
         kw: u64,
     ) -> Result<(), Fault>
-        ensures { Makes (correcting (T.Tariff.charge_of self.old.tariff) K.Key.weighs generator block kw) self.old pages.old self.new pages.new result }
+        ensures { Makes (correcting generator block kw) self.old pages.old self.new pages.new result }
     {
-        let (t, station) = self.admit_generator(pages, generator, Action::Correct)?;
+        let (t, station) = self.admit_generator(pages, generator, Head::Correct)?;
         let kw = in_blocks(block, block, GENERATOR_KW, kw)?;
         let place = Place {
             generator: generator as usize,

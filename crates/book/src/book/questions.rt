@@ -2,17 +2,16 @@
 ghost use Rattle.std.specs.Prelude.{◌≡◌, ◌≤◌, slice_index_or};
 ghost use Rattle.book.specs.Questions.{account_answer, charge_answer, charge_refusal, progress_of, share_answer, share_refusal, Stated};
 ghost use Rattle.units.specs.Refusals.{Checks};
-ghost use Rattle.book.specs.Sheets.{sheet_in};
 ghost use Rattle.book.specs.Sound.{slots_of};
-ghost use Rattle.book.specs.States.{generator_presence, no_station_of, nobody, presence, state};
+ghost use Rattle.book.specs.States.{day_at, generator_presence, no_station_of, nobody, presence, state};
 ghost use Rattle.book.specs.Stations.{due_of};
-ghost use Rattle.posting.specs.Sheets.{sheet_of};
+ghost use Rattle.posting.specs.Days.{the_day};
 
 use super::Book;
 use crate::answers::{Progress, Statement};
 use crate::checks::block_read;
 use crate::pages::{Pages, day};
-use crate::station::Action;
+use crate::station::ASK;
 use posting::amounts::Amounts;
 use posting::day::Day;
 use posting::members::Members;
@@ -46,32 +45,29 @@ impl<T: Tariff, K: Key> Book<T, K> {
 
     /// The day of station `t` on the pages.
     fn day_of<'a>(&'a self, pages: &'a Pages, t: u8, members: Members) -> Day<'a, T, K>
-        ensures tariff { result.tariff.now ≡ self.now.tariff }
-        ensures station { result.station ≡ t }
-        ensures members { result.members ≡ members }
-        ensures sheet { sheet_of result.pages pages.now.accounts.items ≡ sheet_in pages.now }
+        ensures { the_day T.Tariff K.Key result ≡ day_at (state self.now pages.now) t members }
     {
-        day(&self.tariff, &self.key, t, members, pages.lent())
+        day(&self.tariff, &self.key, t, members, pages)
     }
 
     /// The charge of station `t` for the block, and its energy deviation.
     pub fn charge(&self, pages: &Pages, t: u64, block: u64) -> Result<Amounts, Fault>
-        ensures { Checks (charge_refusal t block (state self.now pages.now)) (λ a. a ≡ charge_answer (T.Tariff.charge_of self.now.tariff) t block (state self.now pages.now)) result }
+        ensures { Checks (charge_refusal t block (state self.now pages.now)) (λ a. a ≡ charge_answer t block (state self.now pages.now)) result }
     {
-        let station = self.admit(pages, t, Action::Ask)?;
+        let station = self.admit(pages, t, ASK)?;
         block_read(&pages.readings, station.members, block)?;
         let day = self.day_of(pages, t as u8, station.members);
-        Ok(day.figures(&pages.accounts, block as u8))
+        Ok(day.figures(block as u8))
     }
 
     /// What the generator gets of its station's charge for the block, and of its energy deviation.
     pub fn share(&self, pages: &Pages, generator: u64, block: u64) -> Result<Amounts, Fault>
-        ensures { Checks (share_refusal generator block (state self.now pages.now)) (λ a. a ≡ share_answer (T.Tariff.charge_of self.now.tariff) K.Key.weighs generator block (state self.now pages.now)) result }
+        ensures { Checks (share_refusal generator block (state self.now pages.now)) (λ a. a ≡ share_answer generator block (state self.now pages.now)) result }
     {
-        let (t, station) = self.admit_generator(pages, generator, Action::Ask)?;
+        let (t, station) = self.admit_generator(pages, generator, ASK)?;
         block_read(&pages.readings, station.members, block)?;
         let day = self.day_of(pages, t as u8, station.members);
-        let shares = day.shares(&pages.accounts, block as u8);
+        let shares = day.shares(block as u8);
         let k = generator as usize - station.members.first();
         Ok(shares.each[k])
     }

@@ -16,7 +16,7 @@ use units::fault::Fault;
 impl<T: Tariff, K: Key> Book<T, K> {
     /// Makes the call.
     pub fn apply(&mut self, pages: &mut Pages, call: &Call) -> Result<(), Fault>
-        ensures { Makes (step (T.Tariff.charge_of self.old.tariff) K.Key.weighs call.now) self.old pages.old self.new pages.new result }
+        ensures { Makes (step call.now) self.old pages.old self.new pages.new result }
     {
         match call {
             Call::File {
@@ -63,7 +63,7 @@ impl<T: Tariff, K: Key> Book<T, K> {
         pages: &mut Pages,
         calls: &[Call],
     ) -> Result<Vec<Result<(), Fault>>, Fault>
-        ensures run { MatchResult result (λ rs. Run (T.Tariff.charge_of self.old.tariff) K.Key.weighs (state self.old pages.old) calls.now rs.items (state self.new pages.new)) (λ e. (e ≡ NoMemory) × (state self.new pages.new ≡ state self.old pages.old)) }
+        ensures run { MatchResult result (λ rs. Run (state self.old pages.old) calls.now rs.items (state self.new pages.new)) (λ e. (e ≡ NoMemory) × (state self.new pages.new ≡ state self.old pages.old)) }
         ensures tariff { self.new.tariff ≡ self.old.tariff }
         ensures key { self.new.key ≡ self.old.key }
     {

@@ -1,10 +1,21 @@
 //! Reads a line as a form.
+ghost use Rattle.std.specs.Prelude.{◌≡◌, [], ◌∷◌, ◌++◌, take};
 ghost use Rattle.lines.specs.Forms.{ReadsForm};
 
-use super::{MOST_BYTES, Parts};
+use super::{MOST_BYTES, MOST_GATHERED, Parts};
 use arrayvec::ArrayVec;
 use tokens::reader::Reader;
+use tokens::token::Part;
 use units::fault::Fault;
+
+/// Keeps an argument, if there is room.
+fn keep<'a>(args: &mut ArrayVec<Part<'a>, MOST_GATHERED>, arg: Part<'a>)
+    ensures { args.new.items ≡ take 5 (args.old.items ++ arg.entry ∷ []) }
+{
+    if !args.is_full() {
+        args.push(arg);
+    }
+}
 
 /// The form that the line spells; or where the line, if it is not too long, stops beginning a form.
 /// No memory is asked for.
@@ -21,9 +32,7 @@ pub fn read_form<'a>(line: &'a [u8]) -> Result<Parts<'a>, Fault>
     let mut args = ArrayVec::new();
     let mut count = 0;
     while let Some(token) = reader.next()? {
-        if !args.is_full() {
-            args.push(token.part);
-        }
+        keep(&mut args, token.part);
         count += 1;
     }
     Ok(Parts {

@@ -1,7 +1,5 @@
 //! The quote that a request asks for.
-ghost use Rattle.quoting.specs.Choices.{charge_by};
-ghost use Rattle.quoting.specs.Quotes.{Quoted};
-ghost use Rattle.quoting.specs.Requests.{Answered, loads_of};
+ghost use Rattle.quoting.specs.Requests.{Answered, AnsweredBy};
 
 use crate::choice::{KeyChoice, TariffChoice};
 use crate::quotation::{Quotation, quote_for};
@@ -20,8 +18,9 @@ impl Request {
         }
     }
 
+    /// The same by this key.
     fn quote_by<K: Key>(&self, key: &K) -> Quotation
-        ensures { Quoted (charge_by self.now.tariff) K.Key.weighs self.now.schedule (loads_of self.now) result }
+        ensures { AnsweredBy K.Key.weighs self.now result }
     {
         let generators = Generators::of(&self.generators).unwrap();
         match self.tariff {

@@ -6,8 +6,9 @@ use Rattle.std.proofs.Common.{◌∙◌}
 
 pub loop-t-init : goal.loop-t-init
 loop-t-init c =
+    let opening = c.full_opening-opening.ensures in
     let opened = c.in_ok-book.ensures in
-    (opened.tariff_is, opened_sixteen _ _ _ c.args.full.now.wind c.args.full.now.full opened.stations)
+    (opened.tariff_is, opened_sixteen _ _ _ opening.wind opening.full opened.stations)
 
 pub loop-t-preserved : goal.loop-t-preserved
 loop-t-preserved c = (

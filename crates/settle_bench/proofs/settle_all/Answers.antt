@@ -1,14 +1,18 @@
 -- Each turn settles one station more.
-use Rattle.std.proofs.Common.{◌≡◌, ℕ, pos, ◌∙◌, subst, arith}
-use Rattle.book.specs.Calls.{Does, settling}
+use Rattle.std.proofs.Common.{◌≡◌, ℕ, ap, ◌∙◌, subst, arith}
 use Rattle.book.specs.Sheets.{sheet_in}
 use Rattle.book.specs.States.{state}
+use Rattle.share.specs.Rules.{Rules}
 use Rattle.settle_bench.proofs.Settling.{none_done, settle_more}
 use Rattle.settle_bench.proofs.settle_all.Goals as goal
 use Rattle.settle_bench.specs.Full.{DoneTo}
 use Rattle.share.specs.Keys.{by_units}
 use Rattle.tariff.specs.Bands.{banded_charge}
 use Rattle.tariff.specs.declared.banded.Banded.{Banded}
+
+-- the rules of a book under these bands
+abbrev under : Banded → Rules
+under bands = record { charge = banded_charge bands; weighs = by_units }
 
 pub loop-t-init : goal.loop-t-init
 loop-t-init c = (c.requires.tariff, none_done _ _ c.requires.full)
@@ -20,8 +24,7 @@ loop-t-preserved c =
     let after = state c.settle.new.self c.settle.new.pages in
     let r = c.settle.result in (
       c.settle.ensures.tariff ∙ c.loop-t.invariant.0,
-      settle_more (sheet_in c.args.pages.now) z after r t c.loop-t-test.true c.loop-t.invariant.1
-          (subst (λ (bands : Banded). Does (settling (banded_charge bands) by_units t z) r after) c.loop-t.invariant.0 c.settle.ensures.does)
+      settle_more (sheet_in c.args.pages.now) z after r t c.loop-t-test.true (ap under c.loop-t.invariant.0) c.loop-t.invariant.1 c.settle.ensures.does
           c.in_ok-settle.was,
     )
 

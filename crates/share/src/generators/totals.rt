@@ -8,6 +8,21 @@ use crate::generators::Generators;
 use crate::load::Load;
 use units::limits::GENERATORS;
 
+/// The sums over a station's generators.
+fn load_of(each: &[Generator]) -> Load
+    requires { Few each.now }
+    ensures { result ≡ totals (loads each.now) }
+{
+    let mut sums = Load::default();
+    for generator in each {
+        let own = generator.load();
+        sums.actual += own.actual;
+        sums.capacity += own.capacity;
+        sums.installed += own.installed;
+    }
+    sums
+}
+
 impl<'a> Generators<'a> {
     /// A station's generators, if there are 1 to 32 of them.
     pub fn of(each: &'a [Generator]) -> Option<Generators<'a>>
@@ -16,7 +31,8 @@ impl<'a> Generators<'a> {
         if each.is_empty() || each.len() > GENERATORS {
             return None;
         }
-        Some(Generators { each })
+        let load = load_of(each);
+        Some(Generators { each, load })
     }
 
     pub fn each(&self) -> &'a [Generator]
@@ -29,13 +45,6 @@ impl<'a> Generators<'a> {
     pub fn load(&self) -> Load
         ensures { result ≡ totals (loads self.now.each.now) }
     {
-        let mut sums = Load::default();
-        for generator in self.each {
-            let own = generator.load();
-            sums.actual += own.actual;
-            sums.capacity += own.capacity;
-            sums.installed += own.installed;
-        }
-        sums
+        self.load
     }
 }

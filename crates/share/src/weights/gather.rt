@@ -8,6 +8,7 @@ use crate::generator::Generator;
 use crate::generators::Generators;
 use crate::key::Key;
 use crate::load::Load;
+use crate::quotient::inverse_of;
 use crate::weights::Weights;
 use arrayvec::ArrayVec;
 
@@ -31,6 +32,10 @@ impl Weights {
             each.push(weight);
             total += weight;
         }
-        Weights { each, total }
+        Weights {
+            each,
+            total,
+            inverse: inverse_of(total),
+        }
     }
 }

@@ -1,5 +1,5 @@
 //! An amount split over weights.
-ghost use Rattle.std.specs.Prelude.{◌≡◌, ◌≤◌, length};
+ghost use Rattle.std.specs.Prelude.{◌≡◌, ◌≤◌, length, sum};
 ghost use Rattle.share.specs.Amounts.{energies, moneys};
 ghost use Rattle.share.specs.Held.{held};
 ghost use Rattle.share.specs.Keys.{weights};
@@ -9,13 +9,29 @@ ghost use Rattle.share.specs.Shares.{Fair, shares};
 use crate::amounts::Amounts;
 use crate::generators::Generators;
 use crate::key::Key;
-use crate::magnitude::signed;
-use crate::portion::Portion;
+use crate::splitter::Splitter;
 use crate::weights::Weights;
 use arrayvec::ArrayVec;
 use units::limits::GENERATORS;
 
 impl Weights {
+    /// The weights, in their order.
+    pub fn each(&self) -> &[u32]
+        ensures value { result.now ≡ held self.now }
+        ensures few { length result.now ≤ 32 }
+    {
+        self.each.as_slice()
+    }
+
+    /// An amount to be split over the weights one by one, with no list of the shares.
+    pub fn splitter(&self, amount: i64) -> Splitter
+        ensures amount { result.amount ≡ amount }
+        ensures total { result.total ≡ sum (held self.now) }
+        ensures sum { result.sum ≡ 0 }
+    {
+        Splitter::new(amount, self.total, self.inverse)
+    }
+
     /// The share of each weight, in their order.
     /// The first shares together are the part of the amount that the first weights make of all,
     /// its magnitude rounded down.
@@ -23,12 +39,10 @@ impl Weights {
         ensures shares { result.items ≡ shares amount (held self.now) }
         ensures fair { Fair amount (held self.now) }
     {
-        let mut portion = Portion::none(amount.unsigned_abs(), self.total);
+        let mut splitter = self.splitter(amount);
         let mut shares = ArrayVec::new();
-        for &weight in self.each.as_slice() {
-            let next = portion.grown(weight);
-            shares.push(signed(amount, next.part - portion.part));
-            portion = next;
+        for &weight in self.each() {
+            shares.push(splitter.share_of(weight));
         }
         shares
     }

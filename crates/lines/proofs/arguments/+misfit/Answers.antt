@@ -1,12 +1,12 @@
 -- Where the arguments do not fit the sorts.
 use denote.Enum.Bare.{same_true}
-use Rattle.grammar.specs.contracts.heads.Sort.{the_type}
+use Rattle.units.specs.contracts.head.Sort.{the_type}
 use Rattle.std.proofs.Common.{◌≡◌, ℕ, suc, ◌+◌, ◌-◌, ◌<◌, List, [], ◌∷◌, map, length, get_or, take, drop, sym, ap, ◌∙◌, subst, add-one, arith, rules, ltb-false, Some, None, Option, MatchOption, IsSomeAnd}
 use Rattle.std.proofs.lemmas.List.{take_rest}
 use Rattle.grammar.specs.Calls.{Misfit}
 use Rattle.lines.specs.Arguments.{part_sort}
 use Rattle.tokens.specs.declared.token.Part.{Part}
-use Rattle.grammar.specs.declared.heads.Sort.{Sort}
+use Rattle.units.specs.declared.head.Sort.{Sort}
 use Rattle.lines.proofs.arguments.+misfit.Goals as goal
 
 fit_more : (ts : List Part) (ss : List Sort) (d : Part) (e : Sort) → 0 < length ts → 0 < length ss → part_sort (get_or ts 0 d) ≡ get_or ss 0 e → map part_sort (take (length ts - 1) (drop 1 ts)) ≡ take (length ss - 1) (drop 1 ss) → map part_sort ts ≡ ss

@@ -1,5 +1,5 @@
 use Rattle.std.proofs.Common.{rules}
-use Rattle.grammar.specs.Reads.{calls}
+use Rattle.units.specs.Heads.{calls}
 use Rattle.tokens.proofs.Pieces.{exit_is}
 use Rattle.lines.proofs.Fitting.{called}
 use Rattle.lines.proofs.read.read_call.Goals as goal
@@ -7,8 +7,6 @@ use Rattle.lines.proofs.read.read_call.Goals as goal
 pub returns-in_err-head : goal.returns-in_err-head
 returns-in_err-head c = rw (exit_is c.from_residual.ensures.1) (c.in_err-head.ensures calls (λ h b k. search rules))
 
-pub call-requires : goal.call-requires
-call-requires c = (c.in_ok-head.ensures calls (λ h b k. search rules)).taken
-
 pub returns : goal.returns
-returns c = called _ _ _ _ (c.in_ok-head.ensures calls (λ h b k. search rules)) c.call.ensures
+returns c =
+    called c.from_parts.result (c.in_ok-head.ensures calls (λ h b k. search rules)) c.call.ensures.head c.call.ensures.values c.from_parts.ensures c.ok_or.ensures.value

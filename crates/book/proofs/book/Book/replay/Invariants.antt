@@ -6,7 +6,7 @@ use Rattle.book.specs.States.{state}
 
 abbrev pub invariant-loop-call : goal.invariant-loop-call
 invariant-loop-call g l =
-    Run (g.T.Tariff.charge_of l.initial.self.tariff) g.K.Key.weighs (state l.initial.self l.initial.pages) (take l.call-index l.calls) (vec_items l.answers) (state l.self l.pages)
+    Run (state l.initial.self l.initial.pages) (take l.call-index l.calls) (vec_items l.answers) (state l.self l.pages)
     × (vec_len l.answers ≡ l.call-index)
     × (length l.calls ≤ vec_capacity l.answers)
     × (l.self.tariff ≡ l.initial.self.tariff)

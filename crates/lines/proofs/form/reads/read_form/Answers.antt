@@ -1,20 +1,12 @@
-use Rattle.std.proofs.Common.{ap, ◌∙◌, arith}
-use Rattle.std.proofs.lemmas.Bool.Decides.{nat_tests}
+use Rattle.std.proofs.Common.{◌∙◌, arith}
 use Rattle.tokens.proofs.Pieces.{exit_is}
-use Rattle.lines.proofs.Whole.{first_refused, next_refused, gather_more, gather_past, read}
+use Rattle.lines.proofs.Whole.{first_refused, next_refused, gather, read}
 use Rattle.lines.proofs.form.reads.read_form.Goals as goal
-use Rattle.lines.proofs.form.reads.read_form.Goals.{then-not-is_full, else-not-is_full}
 
 pub loop-token-preserved : goal.loop-token-preserved
 loop-token-preserved c =
-    let more = rw (c.in-Some.is, c.loop-token.invariant.0) at c.in_ok-token.ensures.next in (
-      c.next.ensures.line ∙ c.loop-token.invariant.0,
-      omega (arith, more.shorter, c.loop-token.invariant.1),
-      elim c.if-not-is_full.branch [
-        | then-not-is_full k ↦ gather_more c.loop-token.invariant.2 more (grind (arith, nat_tests)) (ap (λ a. a.items) k.args-is ∙ k.push.ensures.items)
-        | else-not-is_full k ↦ rw k.args-is (gather_past c.loop-token.invariant.2 more (grind (arith, nat_tests)))
-      ],
-    )
+    let more = rw (c.in-Some.is, c.loop-token.invariant.0) at c.in_ok-token.ensures.next in
+    (c.next.ensures.line ∙ c.loop-token.invariant.0, omega (arith, more.shorter, c.loop-token.invariant.1), gather c.loop-token.invariant.2 more c.keep.ensures)
 
 pub returns : goal.returns
 returns c = read c.args.line.now _ _ (omega arith) c.loop-token.invariant.2 (rw c.in_default.is at c.in_ok-token.ensures.next)

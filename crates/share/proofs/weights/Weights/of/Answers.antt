@@ -1,17 +1,25 @@
-use Rattle.std.proofs.Common.{length, sum, ap, ◌∙◌, arith}
+use Rattle.std.proofs.Common.{length, ap, arith}
 use Rattle.share.proofs.Walks.{some_weight, weights_all}
 use Rattle.share.proofs.weights.Weights.of.Goals as goal
+
+pub inverse_of-requires : goal.inverse_of-requires
+inverse_of-requires g c =
+    let w = g.K.Key.weighs in
+    let gs = c.args.generators.now.each.now in
+    let loop = c.loop-generator in
+    let all = weights_all w gs _ _ _ _ c.each-generator-items.ensures c.loop-generator-test.false c.load-station.ensures loop.invariant.front in
+    some_weight w g.met.K.Key.alive gs (omega arith) _ _ loop.invariant.total_is all
 
 pub invariant_of-result : goal.invariant_of-result
 invariant_of-result g c =
     let w = g.K.Key.weighs in
     let gs = c.args.generators.now.each.now in
-    let walked = c.each-generator-items.ensures in
-    let all = weights_all w gs _ _ _ _ walked c.loop-generator-test.false c.load-station.ensures c.loop-generator.invariant.front in
+    let loop = c.loop-generator in
+    let all = weights_all w gs _ _ _ _ c.each-generator-items.ensures c.loop-generator-test.false c.load-station.ensures loop.invariant.front in
     record {
-      whole = c.loop-generator.invariant.total_is;
-      alive = omega (arith, some_weight w g.met.K.Key.alive gs (omega arith), c.loop-generator.invariant.total_is ∙ ap sum all);
-      small = omega (arith, ap length walked);
+      whole = loop.invariant.total_is;
+      alive = some_weight w g.met.K.Key.alive gs (omega arith) _ _ loop.invariant.total_is all;
+      small = omega (arith, ap length c.each-generator-items.ensures);
     }
 
 pub returns : goal.returns

@@ -1,6 +1,6 @@
 use Rattle.std.proofs.Common.{◌<◌, ◌≤◌, length, get_or, pos, ap, ◌∙◌, arith, take_all, w64, to_z, of_z}
 use Rattle.share.proofs.Fairness.{fair, length_shares}
-use Rattle.share.proofs.Splits.{turn}
+use Rattle.share.proofs.Splits.{split_more, split_share}
 use Rattle.share.proofs.weights.Weights.split.Goals as goal
 use Rattle.share.specs.Held.{held}
 use Rattle.share.specs.Shares.{shares}
@@ -11,18 +11,16 @@ pub loop-weight-preserved : goal.loop-weight-preserved
 loop-weight-preserved c =
     let ws = held c.args.self.now in
     let i = c.loop-weight.weight-index in
-    let same = c.as_slice-weight-items.ensures.value in
+    let same = c.each-weight-items.ensures.value in
     let here : i < length ws = rw same at c.loop-weight-test.true in
-    let inv = c.loop-weight.invariant in
-    let next = c.grown-next.ensures in
-    let t = turn ws i _ c.loop-weight.portion c.grown-next.result here (ap (λ xs. get_or xs i 0) same) inv.sum_is (inv.total ∙ c.args.self.now.whole) next.magnitude next.total next.sum in
+    let read = ap (λ xs. get_or xs i 0) same in
+    let at = c.loop-weight.invariant.at in
+    let next = c.share_of.ensures in
     let m = to_z w64 (of_z w64 c.args.amount) in
-    let share = to_z-of_z w64 c.signed.result (record { sfits = c.signed.type_inv }) ∙ c.signed.ensures ∙ t.share m inv.magnitude in
+    let share = to_z-of_z w64 c.share_of.result (record { sfits = c.share_of.type_inv }) ∙ next.share ∙ split_share m ws i _ c.loop-weight.splitter at here read in
     let more = take_more (shares m ws) i (pos 0) (rw length_shares here) in
     record {
-      magnitude = next.magnitude ∙ inv.magnitude;
-      total = next.total ∙ inv.total;
-      sum_is = t.more;
+      at = split_more m ws i _ c.loop-weight.splitter at here read _ next.amount next.total next.sum;
       front = cc;
     }
 
@@ -30,7 +28,7 @@ pub returns-clause-shares : goal.returns-clause-shares
 returns-clause-shares c =
     let ws = held c.args.self.now in
     let amount = to_z-of_z w64 c.args.amount c.ranges.amount in
-    let end : length ws ≤ c.loop-weight.weight-index = rw c.as_slice-weight-items.ensures.value at c.loop-weight-test.false in
+    let end : length ws ≤ c.loop-weight.weight-index = rw c.each-weight-items.ensures.value at c.loop-weight-test.false in
     c.loop-weight.invariant.front ∙ take_all _ _ (rw length_shares end) ∙ ap (λ m. shares m ws) amount
 
 pub returns-clause-fair : goal.returns-clause-fair

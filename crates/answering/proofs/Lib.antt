@@ -1,0 +1,4 @@
+pub mod Answered
+pub mod Days
+pub mod Runs
+pub mod Texts

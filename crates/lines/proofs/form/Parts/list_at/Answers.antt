@@ -1,8 +1,0 @@
-use Rattle.std.proofs.Common.{rules}
-use Rattle.std.proofs.Props.{props}
-use Rattle.std.proofs.Math.Logic.{∥∥₁_elim}
-use Rattle.lines.proofs.Listing.{sound_pieces}
-use Rattle.lines.proofs.form.Parts.list_at.Goals as goal
-
-pub values-requires : goal.values-requires
-values-requires c = ∥∥₁_elim c.args.self.now.sound (Prim.hlevel props) (λ sound. sound_pieces c.in-Some-List.numbers.now (search rules))
