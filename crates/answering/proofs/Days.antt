@@ -1,6 +1,6 @@
 -- Runs of entries from a book just opened, and the law of each.
-use Rattle.std.proofs.Common.{List, [], ◌∷◌, ◌++◌, Ok, Err, IfOk, Result, ◌∙◌, refl, subst}
-use Rattle.book.specs.Calls.{Answer, Does, Makes}
+use Rattle.std.proofs.Common.{List, [], ◌∷◌, ◌++◌, Ok, Err, IfOk, Result, ◌∙◌, refl}
+use Rattle.book.specs.Calls.{Answer, Makes}
 use Rattle.book.specs.Opening.{Opened, Opens}
 use Rattle.book.specs.States.{state}
 use Rattle.book.specs.declared.book.Book.{Book}

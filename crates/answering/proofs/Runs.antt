@@ -1,5 +1,5 @@
 -- Runs of entries: one more, and their calls.
-use Rattle.std.proofs.Common.{◌≡◌, ℕ, List, [], ◌∷◌, ◌++◌, get_or, None, Some, Ok, Err, Option, sym, refl, ap, ◌∙◌, subst}
+use Rattle.std.proofs.Common.{◌≡◌, ℕ, List, [], ◌∷◌, ◌++◌, None, Some, Ok, Err, Option, sym, ap, ◌∙◌, subst}
 use Rattle.answering.specs.Entries.{EachTaken, Entry, Read, Taken, Taking, Went, answered, answers_in, calls_in, no_room, text, typed}
 use Rattle.book.specs.Calls.{Answer, Outcome}
 use Rattle.book.specs.Runs.{Run, step}

@@ -1,5 +1,6 @@
 -- Lines taken from an input.
-use Rattle.std.proofs.Common.{◌≡◌, ◌≢◌, ℕ, zero, suc, ◌+◌, ◌-◌, ◌<◌, ◌≤◌, Bool, true, false, List, [], ◌∷◌, ◌++◌, length, get_or, take, drop, None, Some, Ok, Err, Option, Result, sym, refl, ap, ◌∙◌, subst, arith, append_assoc, append-nil, length-take, length-drop, eq-eqb}
+use Rattle.std.proofs.Common.{◌≡◌, ◌≢◌, ℕ, ◌+◌, ◌-◌, ◌<◌, ◌≤◌, Bool, true, false, List, [], ◌∷◌, ◌++◌, length, get_or, take, drop, None, Some, Ok, Err, Option, Result, sym, refl, ap, ◌∙◌, subst, arith, append_assoc, append-nil, length-take, length-drop, eq-eqb}
+use Rattle.lines.proofs.Whole.{take_again}
 use Rattle.memchr.specs.Find.{NoneBefore, Nowhere, Passes, is_byte}
 use Rattle.std.specs.Prelude.{min, IsOk, OnOk}
 use Rattle.std.proofs.Math.Seq.{take-append-add, take-length}
@@ -9,11 +10,6 @@ use Rattle.std.proofs.lemmas.List.Elements.{All-append, All-from_get_or, All-nil
 use Rattle.std.proofs.KnownBytes.{Consumes-kept, Consumes-nil, Consumes-trans, prepend_known-nil}
 use Rattle.whole_day.specs.Inputs.{NextLine, Plain, Took, TookAhead, cut, feed}
 use Rattle.std.specs.Io.KnownBytes.{Consumes, IsAtEnd, Keeps, prepend_known}
-
-take_again : (n : ℕ) (xs ys : List ℕ) → take n (take n xs ++ ys) ≡ take n (xs ++ ys)
-take_again zero xs ys = refl
-take_again (suc n) [] ys = refl
-take_again (suc n) (x ∷ xs) ys = ap (λ l. x ∷ l) (take_again n xs ys)
 
 -- what holds of an answer without error, where there is none
 pub of_ok : {T E P : Type 0} (r : Result T E) → IsOk r → OnOk r P → P
