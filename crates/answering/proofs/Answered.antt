@@ -63,7 +63,7 @@ module _ {T K : Type 0} {prices : tariff.Ghosts T} {keys : key.Ghosts K} where
   pub start_refused : (t : T) (k : K) (line out : List ℕ) (p : Pages) (f : Fault) (r : Result (ℕ × Option (Book T K prices keys)) Fault) → short_page 64 out ≡ Some f → r ≡ Err f → Started t k line out p p out r
   start_refused t k line out p f r short is = record {
     written = unstarted f short is refl refl;
-    starts = subst (λ x. IfOk x (λ y. IfSome y.1 (λ b. Starts t k line b p))) (sym is) tt;
+    starts = subst (λ x. IfOk x (λ y. IfSome y.1 (λ b. Starts t k line p b p))) (sym is) tt;
   }
 
   pub start_answered : (t : T) (k : K) (line out out' : List ℕ) (p p' : Pages) (a : Result (Book T K prices keys) Fault) (answer : Answer) (book : Option (Book T K prices keys)) (n : ℕ)
@@ -75,14 +75,14 @@ module _ {T K : Type 0} {prices : tariff.Ghosts T} {keys : key.Ghosts K} where
       let same : n ≡ length (answer_text (told a)) = cc in
       begun a room begins (ap (λ i. Ok (i, book)) same ∙ ap (λ x. Ok (length (answer_text (told a)), x)) has) (ap (λ (x : Wrote). x.page) w)
 
-  starts_if : (t : T) (k : K) (line : List ℕ) (p p' : Pages) (a : Result (Book T K prices keys) Fault) → Begins t k line p p' a → IfSome (kept a) (λ b. Starts t k line b p')
+  starts_if : (t : T) (k : K) (line : List ℕ) (p p' : Pages) (a : Result (Book T K prices keys) Fault) → Begins t k line p p' a → IfSome (kept a) (λ b. Starts t k line p b p')
   starts_if t k line p p' (Err f) begins = tt
   starts_if t k line p p' (Ok b) begins = from begins.taken begins.reads begins.opens
     where
-      from : (taken : Result Opening Fault) → ReadsOpening line taken → OpensAs t k taken p p' (Ok b) → Starts t k line b p'
+      from : (taken : Result Opening Fault) → ReadsOpening line taken → OpensAs t k taken p p' (Ok b) → Starts t k line p b p'
       from (Ok o) spelled opened = record { opening = o; spelled = spelled; came = came_open t k o p p' (Ok b) opened }
       from (Err f) refused same = let none : ⊥ = cc (same.0) in absurd none
 
   pub start_starts : (t : T) (k : K) (line : List ℕ) (p p' : Pages) (a : Result (Book T K prices keys) Fault) (book : Option (Book T K prices keys)) → Begins t k line p p' a → book ≡ kept a
-      → IfSome book (λ b. Starts t k line b p')
-  start_starts t k line p p' a book begins has = subst (λ x. IfSome x (λ b. Starts t k line b p')) (sym has) (starts_if t k line p p' a begins)
+      → IfSome book (λ b. Starts t k line p b p')
+  start_starts t k line p p' a book begins has = subst (λ x. IfSome x (λ b. Starts t k line p b p')) (sym has) (starts_if t k line p p' a begins)

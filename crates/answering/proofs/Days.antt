@@ -16,10 +16,9 @@ use Rattle.units.specs.declared.call.Opening.{Opening}
 use Rattle.units.specs.declared.fault.Fault.{Fault}
 
 module _ {T K : Type 0} {prices : tariff.Ghosts T} {keys : key.Ghosts K} where
-  pub came_none : (tariff : T) (key : K) (o : Opening) (before after : Pages) (b : Book T K prices keys) → Opened tariff key o before after b → Came tariff key o [] [] b after
+  pub came_none : (tariff : T) (key : K) (o : Opening) (before after : Pages) (b : Book T K prices keys) → Opened tariff key o before after b → Came tariff key before o [] [] b after
   came_none tariff key o before after b opened = record {
     start = b;
-    before = before;
     begun = after;
     opened = opened;
     takings = [];
@@ -29,15 +28,14 @@ module _ {T K : Type 0} {prices : tariff.Ghosts T} {keys : key.Ghosts K} where
     key_is = opened.key_is;
   }
 
-  pub came_open : (tariff : T) (key : K) (o : Opening) (before after : Pages) (r : Result (Book T K prices keys) Fault) → Opens tariff key o before after r → IfOk r (λ b. Came tariff key o [] [] b after)
+  pub came_open : (tariff : T) (key : K) (o : Opening) (before after : Pages) (r : Result (Book T K prices keys) Fault) → Opens tariff key o before after r → IfOk r (λ b. Came tariff key before o [] [] b after)
   came_open tariff key o before after (Ok b) opened = came_none tariff key o before after b opened
   came_open tariff key o before after (Err f) opened = tt
 
   -- the book's own tariff and key are those under which it was opened
-  pub came_own : (tariff : T) (key : K) (o : Opening) (es : List Entry) (rs : List Answer) (b : Book T K prices keys) (p : Pages) → Came tariff key o es rs b p → Came b.tariff b.key o es rs b p
-  came_own tariff key o es rs b p came = record {
+  pub came_own : (tariff : T) (key : K) (lent : Pages) (o : Opening) (es : List Entry) (rs : List Answer) (b : Book T K prices keys) (p : Pages) → Came tariff key lent o es rs b p → Came b.tariff b.key lent o es rs b p
+  came_own tariff key lent o es rs b p came = record {
     start = came.start;
-    before = came.before;
     begun = came.begun;
     opened = opened_on came.tariff_is came.key_is came.opened;
     takings = came.takings;
@@ -49,9 +47,8 @@ module _ {T K : Type 0} {prices : tariff.Ghosts T} {keys : key.Ghosts K} where
 
   pub came_more : (x : Entry) (t : Taking) (r : Answer) (b b' : Book T K prices keys) (p p' : Pages) → Taken x t → Makes (answered t) b p b' p' r → Next x r b p b' p'
   came_more x t r b b' p p' taken makes = record {
-    goes_on = λ tariff key o es rs came. record {
+    goes_on = λ tariff key lent o es rs came. record {
       start = came.start;
-      before = came.before;
       begun = came.begun;
       opened = came.opened;
       takings = came.takings ++ t ∷ [];
@@ -66,7 +63,7 @@ module _ {T K : Type 0} {prices : tariff.Ghosts T} {keys : key.Ghosts K} where
       → Led o (calls_in ts) (answers_in ts rs) b p
   calls_led tariff key o es rs ts b p by = record {
     start = by.came.start;
-    before = by.came.before;
+    before = by.lent;
     begun = by.came.begun;
     opened = opened_on by.came.tariff_is by.came.key_is by.came.opened;
     run = went_calls ts rs (state by.came.start by.came.begun) (state b p) (went_as es by.came.takings ts rs (state by.came.start by.came.begun) (state b p) by.came.taken by.taken by.came.went);

@@ -28,11 +28,11 @@ pub data Entry : Type 0 where
 abbrev pub Taking : Type 0
 Taking = Result Call Fault
 
--- a page with no room for any answer
+-- a page that has not room for every answer
 abbrev pub no_room : ℕ → Option Fault
 no_room room = when (nat_lt room 64) (ShortOutput room)
 
--- a line is read where there is room for its answer
+-- a line is read where there is room for any answer
 abbrev pub Read : Option Fault → List ℕ → Taking → Type 0
 Read None line t = ReadsCall line t
 Read (Some f) line t = t ≡ Err f
@@ -60,15 +60,14 @@ Went s [] (r ∷ rs) e = ⊥
 Went s (t ∷ ts) [] e = ⊥
 Went s (t ∷ ts) (r ∷ rs) e = ((answered t s).answer ≡ r) × Went (answered t s).after ts rs e
 
--- These entries, with these answers, led from a book just opened under this tariff and key, on any
--- pages, to this book and these pages.
+-- These entries, with these answers, led from a book just opened under this tariff and key, on pages
+-- that held this as they were lent, to this book and these pages.
 pub record Came {T K : Type 0} {prices : tariff.Ghosts T} {keys : key.Ghosts K}
-    (tariff : T) (key : K) (o : Opening) (es : List Entry) (rs : List Answer)
+    (tariff : T) (key : K) (lent : Pages) (o : Opening) (es : List Entry) (rs : List Answer)
     (b : Book T K prices keys) (p : Pages) : Type 0 where
   pub start : Book T K prices keys
-  pub before : Pages
   pub begun : Pages
-  pub opened : Opened tariff key o before begun start
+  pub opened : Opened tariff key o lent begun start
   pub takings : List Taking
   pub taken : EachTaken es takings
   pub went : Went (state start begun) takings rs (state b p)
@@ -78,8 +77,8 @@ pub record Came {T K : Type 0} {prices : tariff.Ghosts T} {keys : key.Ghosts K}
 -- whatever came before, this entry comes next, with this answer
 pub record Next {T K : Type 0} {prices : tariff.Ghosts T} {keys : key.Ghosts K} (x : Entry) (r : Answer)
     (b : Book T K prices keys) (p : Pages) (b' : Book T K prices keys) (p' : Pages) : Type 0 where
-  pub goes_on : (t : T) (k : K) (o : Opening) (es : List Entry) (rs : List Answer)
-      → Came t k o es rs b p → Came t k o (es ++ x ∷ []) (rs ++ r ∷ []) b' p'
+  pub goes_on : (t : T) (k : K) (q : Pages) (o : Opening) (es : List Entry) (rs : List Answer)
+      → Came t k q o es rs b p → Came t k q o (es ++ x ∷ []) (rs ++ r ∷ []) b' p'
 
 -- the calls that are made
 abbrev pub calls_in : List Taking → List Call
@@ -98,11 +97,13 @@ answers_in (Err f ∷ ts) (r ∷ rs) = answers_in ts rs
 abbrev pub data_in : Opening → List Taking → List Answer → Data
 data_in o ts rs = data_of o (calls_in ts) (answers_in ts rs)
 
--- These entries, which are taken so, led to this book and these pages under its own tariff and key.
+-- These entries, which are taken so, led from a book just opened under this tariff and key, on any
+-- pages, to this book and these pages.
 pub record CameBy {T K : Type 0} {prices : tariff.Ghosts T} {keys : key.Ghosts K}
     (o : Opening) (es : List Entry) (rs : List Answer) (ts : List Taking)
     (tariff : T) (key : K) (b : Book T K prices keys) (p : Pages) : Type 0 where
-  pub came : Came tariff key o es rs b p
+  pub lent : Pages
+  pub came : Came tariff key lent o es rs b p
   pub taken : EachTaken es ts
 
 -- Whatever entries led here from a book just opened:

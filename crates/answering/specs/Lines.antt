@@ -74,12 +74,13 @@ pub data StartWritten {T K : Type 0} {prices : tariff.Ghosts T} {keys : key.Ghos
       → r ≡ Ok (length (answer_text (told a)), kept a) → out' ≡ onto (answer_text (told a)) out
       → StartWritten tariff key line out p p' out' r
 
--- the line spells an opening, and with it a run begins
+-- the line spells an opening, and with it, on the pages as they were lent, a run begins
 pub record Starts {T K : Type 0} {prices : tariff.Ghosts T} {keys : key.Ghosts K}
-    (tariff : T) (key : K) (line : List ℕ) (b : Book T K prices keys) (p : Pages) : Type 0 where
+    (tariff : T) (key : K) (line : List ℕ) (lent : Pages) (b : Book T K prices keys) (p : Pages)
+    : Type 0 where
   pub opening : Opening
   pub spelled : Accepted line (opens opening)
-  pub came : Came tariff key opening [] [] b p
+  pub came : Came tariff key lent opening [] [] b p
 
 -- What is written of an answer: whatever line was handled so, it is then answered as `Lined` says.
 abbrev pub WritesHandled : {T K : Type 0} → tariff.Ghosts T → key.Ghosts K → Answer → List ℕ
@@ -94,7 +95,7 @@ pub record Started {T K : Type 0} {prices : tariff.Ghosts T} {keys : key.Ghosts 
     (tariff : T) (key : K) (line out : List ℕ) (p p' : Pages) (out' : List ℕ)
     (r : Result (ℕ × Option (Book T K prices keys)) Fault) : Type 0 where
   pub written : StartWritten tariff key line out p p' out' r
-  pub starts : IfOk r (λ x. IfSome x.1 (λ b. Starts tariff key line b p'))
+  pub starts : IfOk r (λ x. IfSome x.1 (λ b. Starts tariff key line p b p'))
 
 -- What is written of a book that was opened or not: whatever line began so, it then started as said.
 abbrev pub WritesBegun : {T K : Type 0} (prices : tariff.Ghosts T) (keys : key.Ghosts K)

@@ -38,7 +38,7 @@ pub fn open<T: Tariff + Drop, K: Key + Drop>(
     pages: &mut Pages,
 ) -> Result<Book<T, K>, Fault>
     ensures opens { Opens tariff key opening.now pages.old pages.new result }
-    ensures came { IfOk result (λ b. Came tariff key opening.now [] [] b pages.new) }
+    ensures came { IfOk result (λ b. Came tariff key pages.old opening.now [] [] b pages.new) }
 {
     Book::open(tariff, key, opening, pages)
 }

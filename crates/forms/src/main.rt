@@ -1,6 +1,7 @@
 //! Reads lines from standard input, and prints what each asks for, or why it is refused.
 #![tactic(auto)]
 
+use anyhow::Result;
 use describe::describe_line;
 use grammar::line::LONGEST_LINE;
 use std::io;
@@ -9,7 +10,7 @@ use std::io::{BufReader, Read};
 /// How many bytes of a line are kept: one more than a line may have, so that a longer one is refused.
 const MOST_KEPT: usize = LONGEST_LINE + 1;
 
-fn main(rt: HostRuntime) -> io::Result<()> {
+fn main(rt: HostRuntime) -> Result<()> {
     let input = BufReader::new(rt.alloc(), rt.stdin())?;
     let mut line = Vec::new(rt.alloc());
     for byte in input.bytes() {
@@ -18,7 +19,8 @@ fn main(rt: HostRuntime) -> io::Result<()> {
     if line.is_empty() {
         return Ok(());
     }
-    rt.println(describe_line(rt.alloc(), line.as_slice())?)
+    rt.println(describe_line(rt.alloc(), line.as_slice())?)?;
+    Ok(())
 }
 
 /// Takes one more byte of a line, or prints what the line is where it ends.

@@ -1,12 +1,11 @@
 -- What reading a line as a form answers.
-use Rattle.std.proofs.Common.{◌≡◌, ℕ, zero, suc, ◌+◌, ◌-◌, ◌≤◌, Bool, List, [], ◌∷◌, ◌++◌, map, length, take, Err, sym, refl, ap, ◌∙◌, subst, arith}
+use Rattle.std.proofs.Common.{◌≡◌, ℕ, zero, suc, ◌+◌, ◌-◌, ◌≤◌, List, [], ◌∷◌, ◌++◌, map, length, take, Err, sym, refl, ap, ◌∙◌, subst, arith}
 use Rattle.std.proofs.lemmas.List.{length_push, map_push, take-map}
 use Rattle.std.specs.List.{All}
 use Rattle.std.proofs.lemmas.List.Elements.{All-push, All-take}
 use Rattle.grammar.specs.Grammar.{Arg, Form}
 use Rattle.grammar.specs.Machine.{start, closed, outcome, stuck, whole}
-use Rattle.grammar.specs.Reads.{Refused, no_form}
-use Rattle.units.specs.declared.head.Head.{Head}
+use Rattle.grammar.specs.Reads.{no_form}
 use Rattle.grammar.proofs.Reading.{reads_form, not_form_lem}
 use Rattle.lines.specs.Forms.{Found, ReadsForm}
 use Rattle.lines.specs.declared.form.Parts.{Parts}
@@ -20,8 +19,10 @@ use Rattle.units.specs.declared.fault.Fault.{Fault}
 abbrev pub Reached : (line w : List ℕ) → List Arg → (rest : List ℕ) → Type 0
 Reached line w xs rest = outcome start line ≡ outcome (closed (record { head = w; args = xs })) rest
 
-refused : (line : List ℕ) (left : ℕ) (e : Fault) → length line ≤ 1024 → At line left e → outcome start line ≡ stuck left → (wanted : Head → Bool) → Refused wanted line e
-refused line left e h at o wanted = no_form (length line - left) h (not_form_lem line left o) at
+refused : (line : List ℕ) (left : ℕ) (e : Fault) → length line ≤ 1024 → At line left e → outcome start line ≡ stuck left → ReadsForm line (Err e)
+refused line left e h at o =
+    let none = not_form_lem line left o in
+    (λ f is. none.none f is.sound is.bytes, λ wanted. no_form (length line - left) h none at)
 
 pub first_refused : (line rest : List ℕ) (e : Fault) → length line ≤ 1024 → First line (Err e) rest → ReadsForm line (Err e)
 first_refused line rest e h k = refused line k.0 e h k.1 k.2

@@ -20,11 +20,11 @@ pub record Found (line : List ℕ) (parts : Parts) : Type 0 where
   pub counted : parts.count ≡ length form.args
   pub kept : map arg_of parts.args.items ≡ take 5 form.args
 
--- The form that is the line; or a refusal that does not depend on which heads are wanted:
--- a line that is too long, or no form.
+-- The form that is the line; or, where it is too long or no form, a refusal that does not depend on
+-- which heads are wanted.
 abbrev pub ReadsForm : List ℕ → Result Parts Fault → Type 0
 ReadsForm line (Ok parts) = Found line parts
-ReadsForm line (Err e) = (wanted : Head → Bool) → Refused wanted line e
+ReadsForm line (Err e) = ((f : Form) → Is line f → ⊥) × ((wanted : Head → Bool) → Refused wanted line e)
 
 -- the sorts are those that are wanted, or the first misfit is refused
 abbrev pub Fits : (have want : List Sort) → Result Unit Fault → Type 0

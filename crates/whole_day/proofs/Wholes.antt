@@ -205,7 +205,7 @@ module _ {T K : Type 0} {prices : tariff.Ghosts T} {keys : key.Ghosts K} where
   }
 
   opened_with : (t : T) (k : K) (line out out' : List ℕ) (p p' : Pages) (n : ℕ) (book : Option (Book T K prices keys)) (before after : Option (List ℕ))
-      → StartWritten t k line out p p' out' (Ok (n, book)) → IfSome book (λ x. Starts t k line x p') → Appends before after (take n out') → OpenedBy t k line p p' before after book
+      → StartWritten t k line out p p' out' (Ok (n, book)) → IfSome book (λ x. Starts t k line p x p') → Appends before after (take n out') → OpenedBy t k line p p' before after book
   opened_with t k line out out' p p' n book before after (unstarted f short is same pages) starts appended = cc
   opened_with t k line out out' p p' n book before after (begun a room begins is page) starts appended =
       let wanted = answer_text (told a) in
@@ -234,14 +234,14 @@ module _ {T K : Type 0} {prices : tariff.Ghosts T} {keys : key.Ghosts K} where
     pub written : Appends before after (answers_text answers)
 
   next_none : (b : Book T K prices keys) (p : Pages) → NextAll [] [] b p b p
-  next_none b p t k o es rs came =
-      subst (λ xs. Came t k o xs (rs ++ []) b p) (sym (append-nil es)) (subst (λ qs. Came t k o es qs b p) (sym (append-nil rs)) came)
+  next_none b p t k lent o es rs came =
+      subst (λ xs. Came t k lent o xs (rs ++ []) b p) (sym (append-nil es)) (subst (λ qs. Came t k lent o es qs b p) (sym (append-nil rs)) came)
 
   next_more : (xs : List Entry) (x : Entry) (qs : List Answer) (q : Answer) (b m e : Book T K prices keys) (p l r : Pages) → NextAll xs qs b p m l → Next x q m l e r → NextAll (xs ++ x ∷ []) (qs ++ q ∷ []) b p e r
-  next_more xs x qs q b m e p l r all one t k o es rs came =
-      subst (λ ys. Came t k o ys (rs ++ (qs ++ q ∷ [])) e r) (append_assoc es xs (x ∷ []))
-      (subst (λ ys. Came t k o ((es ++ xs) ++ x ∷ []) ys e r) (append_assoc rs qs (q ∷ []))
-      (one.goes_on t k o (es ++ xs) (rs ++ qs) (all t k o es rs came)))
+  next_more xs x qs q b m e p l r all one t k lent o es rs came =
+      subst (λ ys. Came t k lent o ys (rs ++ (qs ++ q ∷ [])) e r) (append_assoc es xs (x ∷ []))
+      (subst (λ ys. Came t k lent o ((es ++ xs) ++ x ∷ []) ys e r) (append_assoc rs qs (q ∷ []))
+      (one.goes_on t k lent o (es ++ xs) (rs ++ qs) (all t k lent o es rs came)))
 
   pub so_far_none : (known : Option (List ℕ)) (b : Book T K prices keys) (p : Pages) (before : Option (List ℕ)) → SoFar known known b p b p before before
   so_far_none known b p before = record { lines = []; answers = []; plain = All-nil Plain; taken = Consumes-nil known; next = next_none b p; written = Appends-nil before }
@@ -311,9 +311,9 @@ module _ {T K : Type 0} {prices : tariff.Ghosts T} {keys : key.Ghosts K} where
       let bytes : next.bytes ++ [] ≡ [] = append-nil next.bytes ∙ cut_none next.bytes line next.kept none in
       no_line (consumed_none known new (next.bytes ++ []) next.taken bytes (next.last refl)) refl keeps
 
-  pub day_unopened : (t : T) (k : K) (known new : Option (List ℕ)) (line : List ℕ) (fed : Bool) (p p' : Pages) (before held after : Option (List ℕ)) → NextLine known new line fed → Keeps before held
+  pub day_unopened : (t : T) (k : K) (known new : Option (List ℕ)) (line : List ℕ) (fed : Bool) (p p' : Pages) (before held after : Option (List ℕ)) → NextLine known new line fed → ((fed ≡ false) × (line ≡ []) → ⊥) → Keeps before held
       → OpenedBy {prices = prices} {keys = keys} t k line p p' held after None → Day prices keys t k known p p' before after
-  day_unopened t k known new line fed p p' before held after next keeps by =
+  day_unopened t k known new line fed p p' before held after next there keeps by =
       let at_line : OpenedBy {prices = prices} {keys = keys} t k line p p' before after None = record {
         opened = by.opened;
         begins = by.begins;
@@ -327,6 +327,7 @@ module _ {T K : Type 0} {prices : tariff.Ghosts T} {keys : key.Ghosts K} where
         rest = new;
         plain = next.plain;
         read = next.taken;
+        some = λ unfed. none_cut next.bytes line next.kept (λ empty. there (unfed, empty));
         last = next.last;
         opened = subst (λ x. OpenedBy {prices = prices} {keys = keys} t k x p p' before after None) next.kept at_line;
       })
@@ -336,12 +337,12 @@ module _ {T K : Type 0} {prices : tariff.Ghosts T} {keys : key.Ghosts K} where
   answer_ok (Err f) b e = cc
 
   -- the law of a run that began with nothing before it gives the number of its stations
-  statements_of : NeverVanish keys.weighs → (t : T) (k : K) (o : Opening) (es : List Entry) (rs : List Answer) (b : Book T K prices keys) (p : Pages) (before after : Option (List ℕ))
-      → Came t k o es rs b p → StatedAll (prices.code_of b.tariff) (state b p) before after
+  statements_of : NeverVanish keys.weighs → (t : T) (k : K) (lent : Pages) (o : Opening) (es : List Entry) (rs : List Answer) (b : Book T K prices keys) (p : Pages) (before after : Option (List ℕ))
+      → Came t k lent o es rs b p → StatedAll (prices.code_of b.tariff) (state b p) before after
       → Appends before after (statements_to (prices.code_of b.tariff) (state b p) (stations_in (layout_of o)))
-  statements_of alive t k o es rs b p before after came stated =
-      let at_own : Came b.tariff b.key o es rs b p = came_own t k o es rs b p came in
-      let law = (lawful_day alive b p).law o es rs came.takings (record { came = at_own; taken = came.taken }) in
+  statements_of alive t k lent o es rs b p before after came stated =
+      let at_own : Came b.tariff b.key lent o es rs b p = came_own t k lent o es rs b p came in
+      let law = (lawful_day alive b p).law o es rs came.takings (record { lent = lent; came = at_own; taken = came.taken }) in
       all_stated (prices.code_of b.tariff) (stations_in (layout_of o)) (state b p) before after law.many (omega (arith, law.many, b.few.1)) (λ u h. (law.stations u h).stated) stated
 
   day_ran : NeverVanish keys.weighs → (t : T) (k : K) (known new : Option (List ℕ)) (line : List ℕ) (p p' p'' : Pages) (b b' : Book T K prices keys) (before held opened answered after : Option (List ℕ))
@@ -349,7 +350,7 @@ module _ {T K : Type 0} {prices : tariff.Ghosts T} {keys : key.Ghosts K} where
       → Day prices keys t k known p p'' before after
   day_ran alive t k known new line p p' p'' b b' before held opened answered after next keeps by all stated =
       let start = by.starts in
-      let came = all.next t k start.opening [] [] start.came in
+      let came = all.next t k p start.opening [] [] start.came in
       let code = prices.code_of b'.tariff in
       ran (record {
         input = (next.bytes ++ 10 ∷ []) ++ all.input;
@@ -366,7 +367,7 @@ module _ {T K : Type 0} {prices : tariff.Ghosts T} {keys : key.Ghosts K} where
         lawful = lawful_day alive b' p'';
         written = three before held opened answered after (answer_text (Ok tt)) (answers_text all.answers) (statements_to code (state b' p'') (stations_in (layout_of start.opening))) keeps
             (subst (Appends held opened) (answer_ok by.opened b by.book) by.written) all.written
-            (statements_of alive t k start.opening (map entry_of all.lines) all.answers b' p'' answered after came stated);
+            (statements_of alive t k p start.opening (map entry_of all.lines) all.answers b' p'' answered after came stated);
       })
 
   day_one : NeverVanish keys.weighs → (t : T) (k : K) (known new : Option (List ℕ)) (line : List ℕ) (p p' : Pages) (b : Book T K prices keys) (before held opened after : Option (List ℕ))
@@ -390,7 +391,7 @@ module _ {T K : Type 0} {prices : tariff.Ghosts T} {keys : key.Ghosts K} where
         lawful = lawful_day alive b p';
         written = three before held opened opened after (answer_text (Ok tt)) [] (statements_to code (state b p') (stations_in (layout_of start.opening))) keeps
             (subst (Appends held opened) (answer_ok by.opened b by.book) by.written) (Appends-nil opened)
-            (statements_of alive t k start.opening [] [] b p' opened after start.came stated);
+            (statements_of alive t k p start.opening [] [] b p' opened after start.came stated);
       })
 
   pub day_is : NeverVanish keys.weighs → (t : T) (k : K) (known new : Option (List ℕ)) (line : List ℕ) (fed : Bool) (p p' p'' : Pages) (b b' : Book T K prices keys) (before held opened answered after : Option (List ℕ))

@@ -58,7 +58,7 @@ pub record OpenedBy {T K : Type 0} {prices : tariff.Ghosts T} {keys : key.Ghosts
   pub opened : Result (Book T K prices keys) Fault
   pub begins : Begins tariff key line p p' opened
   pub book : b ≡ kept opened
-  pub starts : IfSome b (λ x. Starts tariff key line x p')
+  pub starts : IfSome b (λ x. Starts tariff key line p x p')
   pub written : Appends before after (answer_text (told opened))
 
 -- the line comes next, and its answer was written
@@ -73,8 +73,8 @@ pub record AnsweredBy {T K : Type 0} {prices : tariff.Ghosts T} {keys : key.Ghos
 abbrev pub NextAll : {T K : Type 0} {prices : tariff.Ghosts T} {keys : key.Ghosts K} → List Entry
     → List Answer → Book T K prices keys → Pages → Book T K prices keys → Pages → Type 0
 NextAll {T} {K} xs qs b p b' p' =
-    (t : T) (k : K) (o : Opening) (es : List Entry) (rs : List Answer) → Came t k o es rs b p
-    → Came t k o (es ++ xs) (rs ++ qs) b' p'
+    (t : T) (k : K) (q : Pages) (o : Opening) (es : List Entry) (rs : List Answer)
+    → Came t k q o es rs b p → Came t k q o (es ++ xs) (rs ++ qs) b' p'
 
 -- all lines that were left come next, and their answers were written
 pub record AnsweredAll {T K : Type 0} {prices : tariff.Ghosts T} {keys : key.Ghosts K}
@@ -97,7 +97,8 @@ abbrev pub AnsweredRest : {T K : Type 0} {prices : tariff.Ghosts T} {keys : key.
 AnsweredRest true known b p b' p' before after = AnsweredAll known b p b' p' before after
 AnsweredRest false known b p b' p' before after = (b' ≡ b) × (p' ≡ p) × (after ≡ before)
 
--- There was a line, and it opened no book: its refusal was written, and no more was read of the input.
+-- There was a line, and it opened no book: its refusal was written, and nothing for what stands behind
+-- it.
 pub record Unopened {T K : Type 0} (prices : tariff.Ghosts T) (keys : key.Ghosts K)
     (tariff : T) (key : K) (known : Option (List ℕ)) (p p' : Pages)
     (before after : Option (List ℕ)) : Type 0 where
@@ -106,12 +107,13 @@ pub record Unopened {T K : Type 0} (prices : tariff.Ghosts T) (keys : key.Ghosts
   pub rest : Option (List ℕ)
   pub plain : Plain line
   pub read : Consumes known rest (line ++ feed fed)
+  pub some : fed ≡ false → line ≢ []
   pub last : fed ≡ false → IsAtEnd rest
   pub opened : OpenedBy {prices = prices} {keys = keys} tariff key (cut line) p p' before after None
 
 -- The first line opened a book, and each other line was an entry.
 pub record Ran {T K : Type 0} (prices : tariff.Ghosts T) (keys : key.Ghosts K)
-    (tariff : T) (key : K) (known : Option (List ℕ)) (p' : Pages)
+    (tariff : T) (key : K) (known : Option (List ℕ)) (p p' : Pages)
     (before after : Option (List ℕ)) : Type 0 where
   -- all of the input was read, and it is these lines
   pub input : List ℕ
@@ -123,10 +125,11 @@ pub record Ran {T K : Type 0} (prices : tariff.Ghosts T) (keys : key.Ghosts K)
   -- the first spells this opening
   pub opening : Opening
   pub spelled : Accepted (cut line) (opens opening)
-  -- the others, with these answers, led from it to this book, of which the law over every run holds
+  -- the others, with these answers, led from it, on the pages as they were lent, to this book, of
+  -- which the law over every run holds
   pub answers : List Answer
   pub book : Book T K prices keys
-  pub came : Came tariff key opening (map entry_of lines) answers book p'
+  pub came : Came tariff key p opening (map entry_of lines) answers book p'
   pub lawful : LawfulDay book p'
   -- and `(ok)`, the answers, and a statement of each station that was opened were written
   pub written : Appends before after (answer_text (Ok tt) ++ (answers_text answers
@@ -142,5 +145,5 @@ pub data Day {T K : Type 0} (prices : tariff.Ghosts T) (keys : key.Ghosts K)
       → Day prices keys tariff key known p p' before after
   unopened : Unopened prices keys tariff key known p p' before after
       → Day prices keys tariff key known p p' before after
-  ran : Ran prices keys tariff key known p' before after
+  ran : Ran prices keys tariff key known p p' before after
       → Day prices keys tariff key known p p' before after

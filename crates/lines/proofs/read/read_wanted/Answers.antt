@@ -3,7 +3,7 @@ use Rattle.lines.proofs.Fitting.{headed, misfits, fitting}
 use Rattle.lines.proofs.read.read_wanted.Goals as goal
 
 pub returns-in_err-parts : goal.returns-in_err-parts
-returns-in_err-parts g c heads tells = rw (exit_is c.from_residual.ensures.1) (c.in_err-parts.ensures heads)
+returns-in_err-parts g c heads tells = rw (exit_is c.from_residual.ensures.1) (c.in_err-parts.ensures.1 heads)
 
 pub returns-in_err-head : goal.returns-in_err-head
 returns-in_err-head g c heads tells =

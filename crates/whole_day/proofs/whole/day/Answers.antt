@@ -9,7 +9,7 @@ returns-in_default g c =
     let known = left g.R.Read.remaining c.args.ahead.now c.args.reader.now in
     let new = left g.R.Read.remaining c.next_line.new.self c.next_line.new.reader in
     day_unopened c.args.tariff c.args.key known new line c.in_ok-fed.fed c.args.pages.now c.open_by.new.pages (g.W.Write.contents c.args.writer.now) (g.W.Write.contents c.next_line.new.writer) (g.W.Write.contents c.open_by.new.writer)
-    c.in_ok-fed.ensures.line c.in_ok-fed.ensures.held
+    c.in_ok-fed.ensures.line (not_end _ c.if-is_end.false c.is_end.ensures) c.in_ok-fed.ensures.held
     (opened_as c.args.tariff c.args.key c.deref.result.now line c.args.pages.now c.open_by.new.pages (g.W.Write.contents c.next_line.new.writer) (g.W.Write.contents c.open_by.new.writer) c.in_ok-book.field-0 None c.deref.ensures.0 c.in_default.is c.in_ok-book.ensures)
 
 pub returns : goal.returns
