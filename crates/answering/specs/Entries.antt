@@ -75,7 +75,8 @@ pub record Came {T K : Type 0} {prices : tariff.Ghosts T} {keys : key.Ghosts K}
   pub key_is : b.key ≡ key
 
 -- whatever came before, this entry comes next, with this answer
-pub record Next {T K : Type 0} {prices : tariff.Ghosts T} {keys : key.Ghosts K} (x : Entry) (r : Answer)
+pub record Next {T K : Type 0} {prices : tariff.Ghosts T} {keys : key.Ghosts K}
+    (x : Entry) (r : Answer)
     (b : Book T K prices keys) (p : Pages) (b' : Book T K prices keys) (p' : Pages) : Type 0 where
   pub goes_on : (t : T) (k : K) (q : Pages) (o : Opening) (es : List Entry) (rs : List Answer)
       → Came t k q o es rs b p → Came t k q o (es ++ x ∷ []) (rs ++ r ∷ []) b' p'

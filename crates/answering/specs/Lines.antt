@@ -47,8 +47,8 @@ OpensAs tariff key (Err f) p p' r = (r ≡ Err f) × (p' ≡ p)
 
 -- The line was read: a book was opened or not, as the opening that it spells says; or it spells
 -- none, and is refused.
-pub record Begins {T K : Type 0} {prices : tariff.Ghosts T} {keys : key.Ghosts K} (tariff : T) (key : K)
-    (line : List ℕ) (p p' : Pages) (r : Result (Book T K prices keys) Fault) : Type 0 where
+pub record Begins {T K : Type 0} {prices : tariff.Ghosts T} {keys : key.Ghosts K}
+    (tariff : T) (key : K) (line : List ℕ) (p p' : Pages) (r : Result (Book T K prices keys) Fault) : Type 0 where
   pub taken : Result Opening Fault
   pub reads : ReadsOpening line taken
   pub opens : OpensAs tariff key taken p p' r

@@ -1,4 +1,5 @@
-mod Tests
+mod Changed
+mod Phases
 mod Pages
 mod Places
 mod Stations

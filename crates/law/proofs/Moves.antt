@@ -3,7 +3,7 @@ use Rattle.std.proofs.Common.{◌≡◌, ℕ, ◌+◌, ◌*◌, ◌<◌, ◌≤�
 use Rattle.law.proofs.Kept.{Whole}
 use Rattle.law.proofs.Places.{Within, one_owner}
 use Rattle.law.proofs.Same.{Unmoved, same_days, unmoved}
-use Rattle.law.proofs.Tests.{but_other, but_same}
+use Rattle.law.proofs.Changed.{but_other, but_same}
 use Rattle.law.specs.Data.{Data, Layout, but, but_in}
 use Rattle.law.proofs.Together.{all_settled, all_there}
 use Rattle.law.specs.Figures.{count_of, first_of, is_settled, settled_with, stations_in}

@@ -2,7 +2,7 @@
 use Rattle.std.proofs.Common.{◌≡◌, ℕ, ◌+◌, ◌-◌, ◌*◌, ◌<◌, ◌≤◌, ◌&&◌, leb, List, length, get_or, replicate, sym, ap, ◌∙◌, ⊎_elim, inl, inr, arith}
 use Rattle.book.proofs.Writes.{above, below, inside}
 use Rattle.book.specs.Lists.{spliced}
-use Rattle.law.proofs.Tests.{but_other, but_same}
+use Rattle.law.proofs.Changed.{but_other, but_same}
 use Rattle.law.specs.Data.{but, but_in, revised_from}
 use Rattle.std.proofs.lemmas.Bool.{and_from, and_left, and_right, cases_eq, cases_lt, cond-false, cond-true, le-leb, lt-leb}
 use Rattle.std.proofs.lemmas.List.{get_or-replicate, length-replicate}

@@ -3,7 +3,7 @@ use Rattle.std.proofs.Common.{◌≡◌, ℕ, zero, suc, ◌+◌, ◌<◌, ◌�
 use Rattle.book.specs.Sound.{generators_of}
 use Rattle.book.specs.States.{nobody}
 use Rattle.book.specs.declared.station.Station.{Station}
-use Rattle.law.proofs.Tests.{but_other, but_same}
+use Rattle.law.proofs.Changed.{but_other, but_same}
 use Rattle.law.specs.Data.{but}
 use Rattle.law.specs.Figures.{added}
 use Rattle.std.proofs.lemmas.Bool.{cases_eq}

@@ -24,7 +24,8 @@ pub record Found (line : List ℕ) (parts : Parts) : Type 0 where
 -- which heads are wanted.
 abbrev pub ReadsForm : List ℕ → Result Parts Fault → Type 0
 ReadsForm line (Ok parts) = Found line parts
-ReadsForm line (Err e) = ((f : Form) → Is line f → ⊥) × ((wanted : Head → Bool) → Refused wanted line e)
+ReadsForm line (Err e) = ((f : Form) → Is line f → ⊥)
+    × ((wanted : Head → Bool) → Refused wanted line e)
 
 -- the sorts are those that are wanted, or the first misfit is refused
 abbrev pub Fits : (have want : List Sort) → Result Unit Fault → Type 0

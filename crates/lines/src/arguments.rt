@@ -18,7 +18,8 @@ fn sort_of(part: Part) -> Sort
 
 /// The position, from 1, of the first argument that is missing, surplus or of the wrong sort.
 pub fn misfit(args: &[Part], sorts: &[Sort]) -> Option<usize>
-    ensures { MatchOption result (map part_sort args.now ≡ sorts.now) (Misfit (map part_sort args.now) sorts.now) }
+    ensures { MatchOption result (map part_sort args.now ≡ sorts.now)
+        (Misfit (map part_sort args.now) sorts.now) }
 {
     match (args, sorts) {
         ([], []) => None,

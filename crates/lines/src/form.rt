@@ -38,7 +38,8 @@ impl Parts<'_> {
 
     /// The head that the word spells.
     pub(crate) fn head(&self) -> Option<Head>
-        ensures { MatchOption result ((h : Head) → self.now.letters.now ≢ name h) (λ h. self.now.letters.now ≡ name h) }
+        ensures { MatchOption result ((h : Head) → self.now.letters.now ≢ name h)
+            (λ h. self.now.letters.now ≡ name h) }
     {
         Head::named(self.letters)
     }

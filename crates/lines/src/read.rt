@@ -29,7 +29,8 @@ fn read_wanted<'a, W: FnOnce(&Head) -> bool>(
     wanted: W,
 ) -> Result<(Head, Parts<'a>), Fault>
     requires { W.IsAlwaysCallable wanted }
-    ensures { (heads : Head → Bool) → Tells (FnOnceReturnsAt W.FnOnce wanted) heads → MatchResult result (λ p. Fitting heads line.now p.0 p.1) (Refused heads line.now) }
+    ensures { (heads : Head → Bool) → Tells (FnOnceReturnsAt W.FnOnce wanted) heads
+        → MatchResult result (λ p. Fitting heads line.now p.0 p.1) (Refused heads line.now) }
 {
     let parts = read_form(line)?;
     let head = parts.head().filter(wanted).ok_or(Fault::UnknownHead)?;
