@@ -4,6 +4,7 @@ use Rattle.tariff.specs.Charges.{deviation_of, nearest}
 use Rattle.tariff.specs.declared.query.Query.{Query}
 use Rattle.units.specs.declared.fault.Fault.TheVariants.{HighRate}
 use Rattle.units.specs.declared.fault.Fault.{Fault}
+use Rattle.units.specs.declared.limits.TheConstants.{HIGHEST_RATE}
 
 -- A deviation below zero costs a quarter of the export rate e for each kW; one above earns 90 percent of a quarter of the domestic rate g.
 abbrev pub at_rates : ℕ → ℕ → ℤ → ℤ
@@ -19,4 +20,4 @@ larger_rate e g = max ((e + 3) / 4) ((9 * g + 39) / 40)
 
 -- The first of two rates that is above 4,000.
 abbrev pub rate_refused : ℕ → ℕ → Option Fault
-rate_refused e g = cond (nat_lt 4000 e) (Some (HighRate e)) (cond (nat_lt 4000 g) (Some (HighRate g)) None)
+rate_refused e g = cond (nat_lt HIGHEST_RATE e) (Some (HighRate e)) (cond (nat_lt HIGHEST_RATE g) (Some (HighRate g)) None)

@@ -2,6 +2,7 @@ ghost use Rattle.std.specs.Prelude.{◌≡◌, ◌<◌, ◌≤◌, MatchResult};
 ghost use Rattle.tariff.specs.Rates.{larger_rate, rate_refused, single};
 ghost use Rattle.units.specs.Refusals.{Checks};
 ghost use Rattle.units.specs.declared.fault.Fault.TheVariants.{HighRate};
+ghost use Rattle.units.specs.declared.limits.TheConstants.{HIGHEST_RATE};
 ghost use Rattle.tariff.specs.RatesLemmas.{rates_bounded};
 ghost use Rattle.tariff.specs.Charges.{deviation_of};
 ghost use Rattle.std.proofs.Common.{rules};
@@ -18,13 +19,13 @@ pub struct SingleRate {
     export: u32,
     /// What a surplus earns at 90 percent, in paise for a kWh.
     domestic: u32,
-    ghost low_export: { export ≤ 4000 },
-    ghost low_domestic: { domestic ≤ 4000 },
+    ghost low_export: { export ≤ HIGHEST_RATE },
+    ghost low_domestic: { domestic ≤ HIGHEST_RATE },
 }
 
 /// Refuses a rate above 4,000.
 fn checked_rate(rate: u32) -> Result<(), Fault>
-    ensures { MatchResult result (λ _. rate ≤ 4000) (λ e. (4000 < rate) × (e ≡ HighRate rate)) }
+    ensures { MatchResult result (λ _. rate ≤ HIGHEST_RATE) (λ e. (HIGHEST_RATE < rate) × (e ≡ HighRate rate)) }
 {
     if rate > HIGHEST_RATE {
         return Err(Fault::HighRate {
