@@ -2,7 +2,7 @@
 use Rattle.std.proofs.Common.{◌≡◌, ℕ, List, length, None, Some, Ok, Err, IfOk, IfSome, Option, Result, sym, refl, ap, ◌∙◌, subst}
 use Rattle.book.specs.Calls.{Answer, Makes}
 use Rattle.book.specs.declared.book.Book.{Book}
-use Rattle.book.specs.declared.pages.Pages.{Pages}
+use Rattle.posting.specs.declared.pages.Pages.{Pages}
 use Rattle.answering.proofs.Days.{came_more, came_open}
 use Rattle.answering.specs.Entries.{Next, Read, Taken, answered, text, typed}
 use Rattle.answering.specs.Lines.{Begins, Handled, Lined, OpensAs, StartWritten, Started, Starts, begun, kept, told, unstarted}

@@ -4,7 +4,7 @@ use Rattle.book.specs.Calls.{Answer, Makes}
 use Rattle.book.specs.Opening.{Opened, Opens}
 use Rattle.book.specs.States.{state}
 use Rattle.book.specs.declared.book.Book.{Book}
-use Rattle.book.specs.declared.pages.Pages.{Pages}
+use Rattle.posting.specs.declared.pages.Pages.{Pages}
 use Rattle.answering.proofs.Runs.{taken_more, went_as, went_calls, went_more}
 use Rattle.answering.specs.Entries.{Came, CameBy, Entry, LawfulDay, Next, Taken, Taking, answered, answers_in, calls_in}
 use Rattle.law.proofs.Lawful.{lawful, opened_on}

@@ -6,7 +6,7 @@ use Rattle.book.specs.Opening.{Opened}
 use Rattle.book.specs.Runs.{step}
 use Rattle.book.specs.States.{State, state}
 use Rattle.book.specs.declared.book.Book.{Book}
-use Rattle.book.specs.declared.pages.Pages.{Pages}
+use Rattle.posting.specs.declared.pages.Pages.{Pages}
 use Rattle.grammar.specs.Reads.{ReadsCall}
 use Rattle.law.specs.Data.{Data, layout_of}
 use Rattle.law.specs.Figures.{stations_in}

@@ -3,7 +3,7 @@ use Rattle.std.specs.Prelude.{◌≡◌, ℕ, List, [], length, Some, None, Ok, 
 use Rattle.book.specs.Calls.{Answer, Makes}
 use Rattle.book.specs.Opening.{Opens}
 use Rattle.book.specs.declared.book.Book.{Book}
-use Rattle.book.specs.declared.pages.Pages.{Pages}
+use Rattle.posting.specs.declared.pages.Pages.{Pages}
 use Rattle.answering.specs.Entries.{Came, Next, Taken, Taking, answered, text}
 use Rattle.units.specs.Calls.{opens}
 use Rattle.grammar.specs.Reads.{Accepted, ReadsCall, ReadsOpening}

@@ -1,8 +1,9 @@
 -- Values written one after another to the front of a page.
 use Rattle.std.proofs.Common.{◌≡◌, ℕ, ◌+◌, ◌*◌, ◌<◌, ◌≤◌, List, [], ◌∷◌, ◌++◌, map, length, get_or, take, drop, set, replicate, sym, refl, ap, ◌∙◌, subst, arith}
 use Rattle.book.specs.Lists.{spliced}
-use Rattle.book.specs.Opening.{all_day, Begun, opened_account}
-use Rattle.book.specs.declared.pages.Pages.{Pages}
+use Rattle.book.specs.Opening.{all_day, Begun}
+use Rattle.posting.specs.Amounts.{opened_account}
+use Rattle.posting.specs.declared.pages.Pages.{Pages}
 use Rattle.posting.specs.declared.account.Account.{Account}
 use Rattle.std.proofs.lemmas.List.{append_assoc, drop_at, drop-drop, drop_more, flat_map_more, length-append, length-map, length_push, length-replicate, length-take-le, map_more, set_at, take_all, take_at, take_more}
 use Rattle.std.specs.List.{flat_map}

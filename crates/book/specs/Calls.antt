@@ -2,16 +2,17 @@
 -- and what it does where none holds.
 use Rattle.std.specs.Prelude.{◌≡◌, ℕ, ◌+◌, ◌-◌, ◌*◌, ◌^◌, List, [], ◌∷◌, replicate, Some, None, Ok, Err, Option, Result, nat_lt, slice_set}
 use Rattle.book.specs.Causes.{bad_amount, bad_blocks, high_value, revision_causes}
-use Rattle.book.specs.Lists.{installed_power_at, spliced}
+use Rattle.book.specs.Lists.{spliced}
 use Rattle.units.specs.Refusals.{first, when}
 use Rattle.book.specs.States.{State, admission, day_at, generator_admission, owner_of, presence, state, station_at}
 use Rattle.book.specs.Stations.{available, drawn, filed_on, moved, paid, revised_in, settled_at, slot_of}
 use Rattle.book.specs.declared.book.Book.{Book}
-use Rattle.book.specs.declared.pages.Pages.{Pages}
+use Rattle.posting.specs.declared.pages.Pages.{Pages}
 use Rattle.units.specs.declared.head.Head.TheVariants.{File, Declare, Issue, Revise, Close, Read, Settle, Correct}
 use Rattle.book.specs.declared.station.Station.{Station}
 use Rattle.posting.specs.Days.{posted_accounts, standing_charges}
 use Rattle.posting.specs.Missing.{first_missing_of}
+use Rattle.posting.specs.Sheets.{installed_power_at}
 use Rattle.posting.specs.declared.account.Account.{Account}
 use Rattle.posting.specs.declared.place.Place.{Place}
 use Rattle.share.specs.declared.key.Key as key

@@ -5,7 +5,6 @@ pub mod Opening
 pub mod Promises
 pub mod Questions
 pub mod Runs
-pub mod Sheets
 pub mod Sound
 pub mod States
 pub mod Stations

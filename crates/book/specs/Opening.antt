@@ -4,9 +4,9 @@ use Rattle.book.specs.Lists.{spliced}
 use Rattle.units.specs.Refusals.{first, when}
 use Rattle.book.specs.States.{Room, lengths_in, short_for}
 use Rattle.book.specs.declared.book.Book.{Book}
-use Rattle.book.specs.declared.pages.Pages.{Pages}
+use Rattle.posting.specs.declared.pages.Pages.{Pages}
 use Rattle.book.specs.declared.station.Station.{Station}
-use Rattle.posting.specs.declared.account.Account.{Account}
+use Rattle.posting.specs.Amounts.{opened_account}
 use Rattle.share.specs.declared.key.Key as key
 use Rattle.std.specs.List.{flat_map}
 use Rattle.std.specs.Option.{option_map}
@@ -125,10 +125,6 @@ opened_stations from (kind ∷ kinds) (count ∷ counts) =
 unfoldable pub all_day : ℕ → List ℕ
 all_day kw = replicate 96 kw
 
--- a generator's account
-abbrev pub opened_account : ℕ → Account
-opened_account kw = record { installed = kw; money = pos 0; energy = pos 0 }
-
 -- The used fronts: no schedule, the installed powers as capacities, no reading, and empty accounts.
 -- What lies beyond them is kept.
 pub record Begun (stations : ℕ) (installed : List ℕ) (before after : Pages) : Type 0 where
@@ -140,13 +136,6 @@ pub record Begun (stations : ℕ) (installed : List ℕ) (before after : Pages) 
       ≡ spliced 0 (replicate (96 * length installed) None) (vec_items before.readings)
   pub accounts : vec_items after.accounts
       ≡ spliced 0 (map opened_account installed) (vec_items before.accounts)
-
--- new pages: no schedule and no capacity, no reading, and accounts of zeros
-pub record Blank (stations generators : ℕ) (p : Pages) : Type 0 where
-  pub schedules : vec_items p.schedules ≡ replicate (96 * stations) 0
-  pub capacities : vec_items p.capacities ≡ replicate (96 * generators) 0
-  pub readings : vec_items p.readings ≡ replicate (96 * generators) None
-  pub accounts : vec_items p.accounts ≡ replicate generators (opened_account 0)
 
 -- what the checks find of an opening
 

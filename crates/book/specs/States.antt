@@ -4,7 +4,7 @@ use Rattle.units.specs.Refusals.{first, when}
 use Rattle.book.specs.Sound.{Bounded, Changes, generators_of}
 use Rattle.book.specs.Stations.{fresh, moved, moves}
 use Rattle.book.specs.declared.book.Book.{Book}
-use Rattle.book.specs.declared.pages.Pages.{Pages}
+use Rattle.posting.specs.declared.pages.Pages.{Pages}
 use Rattle.units.specs.declared.head.Head.{Head}
 use Rattle.book.specs.declared.station.Station.{Station}
 use Rattle.posting.specs.Days.{StationDay}

@@ -11,5 +11,5 @@ mod station;
 
 pub use answers::{Progress, Statement};
 pub use book::Book;
-pub use pages::Pages;
 pub use posting::amounts::Amounts;
+pub use posting::pages::Pages;

@@ -4,16 +4,17 @@ use Rattle.book.proofs.OpeningPages.{length_days}
 use Rattle.book.proofs.OpeningStations.{opened_at, sums_opened}
 use Rattle.book.proofs.Writes.{inside, length_spliced}
 use Rattle.book.specs.Lists.{spliced}
-use Rattle.book.specs.Opening.{Installable, Openable, Opened, View, all_day, generators_in, opened_account, opened_stations, station_opened, view_of}
+use Rattle.book.specs.Opening.{Installable, Openable, Opened, View, all_day, generators_in, opened_stations, station_opened, view_of}
 use Rattle.book.specs.Sound.{generators_of}
 use Rattle.book.specs.States.{Lengths, Room, lengths_in, nobody, state}
 use Rattle.book.specs.declared.book.Book.{Book}
-use Rattle.book.specs.declared.pages.Pages.{Pages}
+use Rattle.posting.specs.declared.pages.Pages.{Pages}
 use Rattle.book.specs.declared.station.Station.{Station}
 use Rattle.law.proofs.Kept.{Kept, amounts_in}
 use Rattle.law.proofs.Places.{in_all}
 use Rattle.law.specs.Data.{Layout, at_opening, layout_of}
 use Rattle.law.specs.Figures.{added, first_of}
+use Rattle.posting.specs.Amounts.{opened_account}
 use Rattle.posting.specs.Days.{no_account}
 use Rattle.posting.specs.declared.account.Account.{Account}
 use Rattle.share.specs.declared.key.Key as key

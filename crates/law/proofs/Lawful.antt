@@ -4,7 +4,7 @@ use Rattle.book.specs.Calls.{Answer}
 use Rattle.book.specs.Opening.{Opened}
 use Rattle.book.specs.States.{State, state}
 use Rattle.book.specs.declared.book.Book.{Book}
-use Rattle.book.specs.declared.pages.Pages.{Pages}
+use Rattle.posting.specs.declared.pages.Pages.{Pages}
 use Rattle.law.proofs.Begun.{begun_kept}
 use Rattle.law.proofs.Held.{law_holds, money_same, station_same}
 use Rattle.law.proofs.Kept.{Kept}

@@ -4,7 +4,7 @@ use Rattle.book.proofs.Causes.{admitted, blocks_pass, first_none, generator_admi
 use Rattle.book.proofs.Writes.{length_spliced}
 use Rattle.book.specs.Calls.{Answer, above_cash, above_due, missing_reading, posted, unless, with_readings, with_station}
 use Rattle.book.specs.Causes.{bad_amount, bad_blocks, high_value}
-use Rattle.book.specs.Lists.{installed_power_at}
+use Rattle.posting.specs.Sheets.{installed_power_at}
 use Rattle.book.specs.Runs.{Run, step}
 use Rattle.book.specs.States.{State, admission, day_at, generator_admission, owner_of, presence, station_at}
 use Rattle.book.specs.Stations.{drawn, filed_on, moved, moves, paid, revised_in, slot_of}

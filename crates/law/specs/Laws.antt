@@ -7,7 +7,7 @@ use Rattle.book.specs.Runs.{Run}
 use Rattle.book.specs.States.{State, generator_presence, no_station, presence, state, station_at}
 use Rattle.book.specs.Stations.{due_of}
 use Rattle.book.specs.declared.book.Book.{Book}
-use Rattle.book.specs.declared.pages.Pages.{Pages}
+use Rattle.posting.specs.declared.pages.Pages.{Pages}
 use Rattle.law.specs.Data.{Data, Layout, at_opening, data_after, layout_of}
 use Rattle.law.specs.Figures.{account_of, added, count_of, figures_of, first_of, settled_with, share_of, standing, stations_in, weight_of, weights_of}
 use Rattle.posting.specs.Days.{sum_to}

@@ -21,6 +21,10 @@ Within limit a = (unsigned_abs a.money ≤ limit) × (unsigned_abs a.energy ≤ 
 abbrev pub BlockSized : Amounts → Type 0
 BlockSized figures = (unsigned_abs figures.money ≤ 64000000000) × (unsigned_abs figures.energy ≤ 6400000)
 
+-- the account of a generator to which no day is posted yet
+abbrev pub opened_account : ℕ → Account
+opened_account kw = record { installed = kw; money = pos 0; energy = pos 0 }
+
 -- an account with these in the place of what stood there
 abbrev pub with_amounts : Amounts → Account → Account
 with_amounts sums account = record { installed = account.installed; money = sums.money; energy = sums.energy }

@@ -1,12 +1,13 @@
 -- A station's day: its figures of each block, and what each generator gets of the 96 blocks.
 use Rattle.std.specs.Prelude.{◌≡◌, ℕ, zero, suc, ◌+◌, ◌-◌, ◌<◌, ◌≤◌, Bool, cond, ◌&&◌, List, [], ◌∷◌, length, ℤ, pos, ◌+ℤ◌, nat_le, nat_lt, slice_index_or}
-use Rattle.posting.specs.Amounts.{no_amounts, with_amounts}
+use Rattle.posting.specs.Amounts.{no_amounts, opened_account, with_amounts}
 use Rattle.share.specs.Rules.{Rules, rules_of}
 use Rattle.posting.specs.Sheets.{Sheet, installed_of, loads_at, query_of, sheet_of}
 use Rattle.posting.specs.declared.account.Account.{Account}
 use Rattle.posting.specs.declared.day.Day.{Day}
 use Rattle.posting.specs.declared.day.DaySums.{DaySums}
 use Rattle.posting.specs.declared.members.Members.{Members}
+use Rattle.posting.specs.declared.pages.Pages.{Pages}
 use Rattle.share.specs.Keys.{weights}
 use Rattle.share.specs.Shares.{Fair, shares}
 use Rattle.share.specs.declared.amounts.Amounts.{Amounts}
@@ -26,10 +27,14 @@ pub record StationDay : Type 0 where
 abbrev pub the_day : {T K : Type 0} → tariff.Ghosts T → key.Ghosts K → Day T K → StationDay
 the_day prices keys d = record {
   rules = rules_of prices keys d.tariff.now;
-  sheet = sheet_of d.pages;
+  sheet = sheet_of d.pages.now;
   station = d.station;
   members = d.members;
 }
+
+-- the day of station t on these pages, where these are its generators
+abbrev pub day_on : Rules → Pages → ℕ → Members → StationDay
+day_on rules p t m = record { rules = rules; sheet = sheet_of p; station = t; members = m }
 
 -- what its tariff is asked in the block b
 abbrev pub query_at : StationDay → ℕ → Query
@@ -101,7 +106,7 @@ SumsOf d sums = SumsTo d 96 sums
 
 -- what stands past the end of a page of accounts
 abbrev pub no_account : Account
-no_account = record { installed = 0; money = pos 0; energy = pos 0 }
+no_account = opened_account 0
 
 -- an account with the k-th of these sums
 abbrev pub with_sums : List Amounts → ℕ → Account → Account

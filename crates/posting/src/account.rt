@@ -1,6 +1,6 @@
 //! What a generator gets of a day.
-ghost use Rattle.std.specs.Prelude.{◌≡◌, pos};
-ghost use Rattle.posting.specs.Amounts.{with_amounts};
+ghost use Rattle.std.specs.Prelude.{◌≡◌};
+ghost use Rattle.posting.specs.Amounts.{opened_account, with_amounts};
 
 use crate::amounts::Amounts;
 
@@ -15,7 +15,7 @@ pub struct Account {
 impl Account {
     /// The account of a generator to which no day is posted yet.
     pub fn new(installed: u32) -> Account
-        ensures { result ≡ record { installed = installed; money = pos 0; energy = pos 0 } }
+        ensures { result ≡ opened_account installed }
     {
         Account {
             installed,

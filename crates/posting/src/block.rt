@@ -42,7 +42,7 @@ impl BlockShares {
 impl<T: Tariff, K: Key> Day<'_, T, K> {
     /// Puts the station's generators in a block into `all`, in the place of what it held.
     fn gather(&self, block: u8, all: &mut ArrayVec<Generator, GENERATORS>)
-        ensures { loads all.new.items ≡ loads_at (sheet_of self.now.pages) self.now.members block }
+        ensures { loads all.new.items ≡ loads_at (sheet_of self.now.pages.now) self.now.members block }
     {
         all.clear();
         for generator in self.members.numbers() {
@@ -52,7 +52,7 @@ impl<T: Tariff, K: Key> Day<'_, T, K> {
 
     /// What the tariff is asked in a block.
     fn query(&self, block: u8, generators: &Generators) -> Query
-        ensures value { result ≡ query_of self.now.pages.schedules.now self.now.station block (loads generators.now.each.now) }
+        ensures value { result ≡ query_of self.now.pages.now.schedules.items self.now.station block (loads generators.now.each.now) }
         ensures schedule { result.schedule ≤ 6400000 }
         ensures actual { result.actual ≤ 6400000 }
     {
@@ -68,8 +68,8 @@ impl<T: Tariff, K: Key> Day<'_, T, K> {
 
     /// The charge by the tariff, and the deviation.
     fn figures_of(&self, block: u8, generators: &Generators) -> Amounts
-        ensures money { result.money ≡ T.Tariff.charge_of self.now.tariff.now (query_of self.now.pages.schedules.now self.now.station block (loads generators.now.each.now)) }
-        ensures energy { result.energy ≡ deviation_of (query_of self.now.pages.schedules.now self.now.station block (loads generators.now.each.now)) }
+        ensures money { result.money ≡ T.Tariff.charge_of self.now.tariff.now (query_of self.now.pages.now.schedules.items self.now.station block (loads generators.now.each.now)) }
+        ensures energy { result.energy ≡ deviation_of (query_of self.now.pages.now.schedules.items self.now.station block (loads generators.now.each.now)) }
         ensures sized { BlockSized result }
     {
         let query = self.query(block, generators);

@@ -22,7 +22,7 @@ pub struct Day<'a, T, K> {
     pub key: &'a K,
     pub station: u8,
     pub members: Members,
-    pub pages: Pages<'a>,
+    pub pages: &'a Pages,
 }
 
 /// The charges of a station's day, and what each of its generators gets of them and of the deviations.

@@ -7,6 +7,5 @@ pub mod complaint;
 mod draft;
 mod entry;
 pub mod quotation;
-pub mod report;
 pub mod request;
 mod words;

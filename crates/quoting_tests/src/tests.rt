@@ -1,23 +1,29 @@
-use quoting::report::report;
+use quoting::answer::answer;
 use std::alloc::Global;
 use std::process::Abort;
 use std::test::Fail;
 
 const GENERATOR: &str = "generator 1000 0 0\n";
 
+/// The quote that a text asks for, in lines.
+fn quote(heap: Global, text: &str) -> Result<String, Fail> {
+    let quotation = answer(text)?;
+    Ok(format!(in heap; "{quotation}")?)
+}
+
 /// Each text is refused with its line.
 fn refused(rt: &impl Abort, heap: Global, cases: &[(&str, &str)]) -> Result<(), Fail> {
     for &(text, line) in cases {
-        let failure = report(heap, text).err().ok_or("the request was granted")?;
-        assert!(rt; failure.to_string(heap)?.as_str() == line, "{}", line);
+        let complaint = answer(text).err().ok_or("the request was granted")?;
+        assert!(rt; complaint.to_string(heap)?.as_str() == line, "{}", line);
     }
     Ok(())
 }
 
-/// The report of each text has its line.
+/// The quote that each text asks for has its line.
 fn answered(rt: &impl Abort, heap: Global, cases: &[(&str, &str)]) -> Result<(), Fail> {
     for &(text, line) in cases {
-        assert!(rt; report(heap, text)?.as_str().contains(line), "{}", line);
+        assert!(rt; quote(heap, text)?.as_str().contains(line), "{}", line);
     }
     Ok(())
 }
@@ -32,7 +38,7 @@ fn many(heap: Global, count: u32) -> Result<String, Fail> {
 }
 
 #[test]
-fn whole_report(rt: HostRuntime) -> Result<(), Fail> {
+fn whole_quote(rt: HostRuntime) -> Result<(), Fail> {
     let text =
         "tariff single 300 200\nkey units\nschedule 1000\ngenerator 2000 500 505\ngenerator 2000 500 505\n";
     let expected = "          schedule/kW  actual/kW capacity/kW deviation/kW   charge/paise
@@ -42,7 +48,7 @@ station          1000       1010        1000           10           -450
 generator      0           -225           5
 generator      1           -225           5
 ";
-    assert!(rt; report(rt.alloc(), text)?.as_str() == expected);
+    assert!(rt; quote(rt.alloc(), text)?.as_str() == expected);
     Ok(())
 }
 

@@ -1,11 +1,12 @@
 -- A book that was opened in full, and the calls up to the close of its day.
 use Rattle.std.proofs.Common.{◌≡◌, ℕ, zero, suc, ◌+◌, ◌*◌, ◌<◌, List, [], ◌∷◌, map, length, get_or, replicate, Ok, sym, refl, ap, ◌∙◌, subst, arith}
 use Rattle.book.specs.Calls.{Answer, Does, closing, filing, issuing}
-use Rattle.book.specs.Opening.{View, opened_account, station_opened, opened_stations, view_of}
+use Rattle.book.specs.Opening.{View, station_opened, opened_stations, view_of}
 use Rattle.book.specs.States.{State, nobody, station_at}
 use Rattle.book.specs.Stations.{filed_on, moved}
 use Rattle.units.specs.declared.head.Head.TheVariants.{File, Issue, Close}
 use Rattle.book.specs.declared.station.Station.{Station}
+use Rattle.posting.specs.Amounts.{opened_account}
 use Rattle.posting.specs.Sheets.{installed_of}
 use Rattle.settle_bench.proofs.Settling.{still_sixteen, taken}
 use Rattle.settle_bench.specs.Full.{Sixteen}

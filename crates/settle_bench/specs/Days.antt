@@ -7,5 +7,5 @@ use Rattle.settle_bench.specs.declared.Day.{Day}
 abbrev pub day_sheet : List ℕ → List ℕ → List ℕ → List ℕ → Sheet
 day_sheet installed schedules capacities readings = record { schedules = schedules; capacities = capacities; readings = map Some readings; installed = installed }
 
-abbrev pub sheet_of : Day → Sheet
-sheet_of d = day_sheet d.installed.now d.schedules.now d.capacities.now d.readings.now
+abbrev pub given_sheet : Day → Sheet
+given_sheet d = day_sheet d.installed.now d.schedules.now d.capacities.now d.readings.now

@@ -5,10 +5,10 @@ mod failure;
 mod full;
 mod shares;
 
-ghost use Rattle.book.specs.Opening.{opened_account};
-ghost use Rattle.book.specs.Sheets.{sheet_in};
+ghost use Rattle.posting.specs.Amounts.{opened_account};
+ghost use Rattle.posting.specs.Sheets.{sheet_of};
 ghost use Rattle.book.specs.States.{state};
-ghost use Rattle.settle_bench.specs.Days.{day_sheet, sheet_of};
+ghost use Rattle.settle_bench.specs.Days.{day_sheet, given_sheet};
 ghost use Rattle.settle_bench.specs.Full.{DoneTo, Full, Leaves, Sixteen};
 ghost use Rattle.settle_bench.specs.Reports.{AllSettled, Reports};
 ghost use Rattle.std.specs.Prelude.{◌≡◌, map, length, IfOk, IsTrue, Some, OnOk};
@@ -73,7 +73,7 @@ fn opened_accounts(heap: Global, installed: &[u32]) -> Result<Vec<Account>, Allo
 /// Pages that hold the day's numbers.
 #[tactic(auto, using(crate::proofs::Opening::powers_opened))]
 fn day_pages(heap: Global, day: &Day) -> Result<Pages, AllocError>
-    ensures { IfOk result (λ p. sheet_in p ≡ sheet_of day.now) }
+    ensures { IfOk result (λ p. sheet_of p ≡ given_sheet day.now) }
 {
     Ok(Pages {
         schedules: day.schedules.to_vec(heap)?,
@@ -86,8 +86,8 @@ fn day_pages(heap: Global, day: &Day) -> Result<Pages, AllocError>
 /// Settles every station of a full book.
 fn settle_all(book: &mut Book<Banded, UnitsKey>, pages: &mut Pages) -> Result<(), Fault>
     requires tariff { book.old.tariff ≡ From10 }
-    requires full { Full (sheet_in pages.old) (state book.old pages.old) }
-    ensures { OnOk result (DoneTo 16 (sheet_in pages.old) (state book.new pages.new)) }
+    requires full { Full (sheet_of pages.old) (state book.old pages.old) }
+    ensures { OnOk result (DoneTo 16 (sheet_of pages.old) (state book.new pages.new)) }
 {
     for t in 0..STATIONS as u64 {
         book.settle(pages, t)?;
@@ -122,7 +122,7 @@ fn one_book(
     settle: bool,
 ) -> Result<Book<Banded, UnitsKey>, Fault>
     requires { length pages.old.accounts.items ≡ 512 }
-    ensures { IfOk result (λ b. Leaves settle (sheet_in pages.old) (state b pages.new)) }
+    ensures { IfOk result (λ b. Leaves settle (sheet_of pages.old) (state b pages.new)) }
 {
     let mut book = closed_book(installed, blank)?;
     if settle {
@@ -140,7 +140,7 @@ fn last_book(
     settle: bool,
 ) -> Result<Book<Banded, UnitsKey>, Failure>
     requires { length pages.old.accounts.items ≡ 512 }
-    ensures { IfOk result (λ b. Leaves settle (sheet_in pages.old) (state b pages.new)) }
+    ensures { IfOk result (λ b. Leaves settle (sheet_of pages.old) (state b pages.new)) }
 {
     let mut blank = Pages::new(heap, STATIONS as u8, ALL_GENERATORS as u16)?;
     let mut last = None;
@@ -159,7 +159,7 @@ fn run(
     dues: &mut [i64],
     shares: &mut [Shares],
 ) -> Result<(), Failure>
-    ensures { OnOk result (IsTrue settle → AllSettled (sheet_of day.now) dues.new shares.new) }
+    ensures { OnOk result (IsTrue settle → AllSettled (given_sheet day.now) dues.new shares.new) }
 {
     let given = day.installed.len();
     if given != ALL_GENERATORS {

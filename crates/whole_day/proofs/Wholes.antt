@@ -10,7 +10,7 @@ use Rattle.std.proofs.KnownBytes.{Appends-nil, Appends-trans, Consumes-nil, Cons
 use Rattle.book.specs.Calls.{Answer}
 use Rattle.book.specs.States.{State, no_station, presence, short_pages, state}
 use Rattle.book.specs.declared.book.Book.{Book}
-use Rattle.book.specs.declared.pages.Pages.{Pages}
+use Rattle.posting.specs.declared.pages.Pages.{Pages}
 use Rattle.answering.proofs.Days.{came_own, lawful_day}
 use Rattle.law.specs.Data.{layout_of}
 use Rattle.law.specs.Figures.{stations_in}

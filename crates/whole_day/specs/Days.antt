@@ -3,7 +3,7 @@ use Rattle.std.specs.Prelude.{◌≡◌, ◌≢◌, ◌⊎◌, ◌<◌, ℕ, zer
 use Rattle.book.specs.Calls.{Answer}
 use Rattle.book.specs.States.{State, presence, state}
 use Rattle.book.specs.declared.book.Book.{Book}
-use Rattle.book.specs.declared.pages.Pages.{Pages}
+use Rattle.posting.specs.declared.pages.Pages.{Pages}
 use Rattle.answering.specs.Entries.{Came, Entry, LawfulDay, Next, text}
 use Rattle.law.specs.Data.{layout_of}
 use Rattle.law.specs.Figures.{stations_in}

@@ -4,8 +4,8 @@ ghost use Rattle.units.specs.Refusals.{Checks};
 ghost use Rattle.book.specs.States.{admission, Admitted, Fit, Found, generator_admission, generator_presence, lengths_in, no_station_of, Owned, Owner, presence, reaches, Room, short_for, short_page, short_pages, state, StationIs};
 
 use super::Book;
-use crate::pages::Pages;
 use crate::station::Station;
+use posting::pages::Pages;
 use share::key::Key;
 use tariff::tariff::Tariff;
 use units::fault::{Fault, Page};

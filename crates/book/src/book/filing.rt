@@ -3,7 +3,8 @@ ghost use Rattle.book.specs.Calls.{closing, filing, issuing, Makes, revising};
 
 use super::Book;
 use crate::checks::in_blocks;
-use crate::pages::{Pages, entries};
+use crate::pages::entries;
+use posting::pages::Pages;
 use share::key::Key;
 use tariff::tariff::Tariff;
 use units::fault::Fault;

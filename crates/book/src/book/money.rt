@@ -3,7 +3,7 @@ ghost use Rattle.book.specs.Calls.{drawing, Makes, payment};
 
 use super::Book;
 use crate::checks::sound_amount;
-use crate::pages::Pages;
+use posting::pages::Pages;
 use share::key::Key;
 use tariff::tariff::Tariff;
 use units::fault::Fault;

@@ -7,7 +7,8 @@ use super::admission::fitting_pages;
 use crate::opening::{
     installed_count, installed_range, lay_stations, sound_stations, station_count,
 };
-use crate::pages::Pages;
+use crate::pages::begin;
+use posting::pages::Pages;
 use share::key::Key;
 use tariff::tariff::Tariff;
 use units::call::Opening;
@@ -37,7 +38,7 @@ impl<T: Tariff + Drop, K: Key + Drop> Book<T, K> {
     {
         let generators = openable(opening, pages)?;
         let stations = lay_stations(opening.kinds, opening.counts);
-        pages.begin(stations.len(), opening.installed);
+        begin(pages, stations.len(), opening.installed);
         Ok(Book {
             tariff,
             key,

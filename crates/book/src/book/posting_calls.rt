@@ -6,8 +6,9 @@ ghost use Rattle.std.specs.Prelude.{◌≡◌};
 
 use super::Book;
 use crate::checks::{complete, in_blocks};
-use crate::pages::Pages;
+use crate::pages::post;
 use crate::station::Station;
+use posting::pages::Pages;
 use posting::place::Place;
 use share::key::Key;
 use tariff::tariff::Tariff;
@@ -23,7 +24,7 @@ impl<T: Tariff, K: Key> Book<T, K> {
         ensures tariff { self.new.tariff ≡ self.old.tariff }
         ensures key { self.new.key ≡ self.old.key }
     {
-        let charges = pages.post(&self.tariff, &self.key, t as u8, station.members);
+        let charges = post(&self.tariff, &self.key, t as u8, station.members, pages);
         station.settle(charges);
         self.put(t, station, self.cash);
     }

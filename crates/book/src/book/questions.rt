@@ -10,11 +10,11 @@ ghost use Rattle.posting.specs.Days.{the_day};
 use super::Book;
 use crate::answers::{Progress, Statement};
 use crate::checks::block_read;
-use crate::pages::{Pages, day};
 use crate::station::ASK;
 use posting::amounts::Amounts;
 use posting::day::Day;
 use posting::members::Members;
+use posting::pages::Pages;
 use share::key::Key;
 use tariff::tariff::Tariff;
 use units::fault::Fault;
@@ -44,10 +44,16 @@ impl<T: Tariff, K: Key> Book<T, K> {
     }
 
     /// The day of station `t` on the pages.
-    fn day_of<'a>(&'a self, pages: &'a Pages, t: u8, members: Members) -> Day<'a, T, K>
-        ensures { the_day T.Tariff K.Key result ≡ day_at (state self.now pages.now) t members }
+    fn day_of<'a>(&'a self, pages: &'a Pages, station: u8, members: Members) -> Day<'a, T, K>
+        ensures { the_day T.Tariff K.Key result ≡ day_at (state self.now pages.now) station members }
     {
-        day(&self.tariff, &self.key, t, members, pages)
+        Day {
+            tariff: &self.tariff,
+            key: &self.key,
+            station,
+            members,
+            pages,
+        }
     }
 
     /// The charge of station `t` for the block, and its energy deviation.

@@ -6,7 +6,7 @@ ghost use Rattle.std.specs.Prelude.{◌≡◌, MatchResult};
 ghost use Rattle.units.specs.declared.fault.Fault.TheVariants.{NoMemory};
 
 use super::Book;
-use crate::pages::Pages;
+use posting::pages::Pages;
 use share::key::Key;
 use std::alloc::Global;
 use tariff::tariff::Tariff;

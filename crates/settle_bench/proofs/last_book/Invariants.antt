@@ -1,5 +1,5 @@
 -- The pages hold the same numbers, and the last book is full, and settled where it was asked for.
-use Rattle.book.specs.Sheets.{sheet_in}
+use Rattle.posting.specs.Sheets.{sheet_of}
 use Rattle.book.specs.States.{state}
 use Rattle.settle_bench.proofs.last_book.Given as goal
 use Rattle.settle_bench.specs.Full.{Leaves}
@@ -7,6 +7,6 @@ use Rattle.std.proofs.Common.{◌≡◌, length, IfSome, vec_items}
 
 abbrev pub invariant-loop : goal.invariant-loop
 invariant-loop l =
-    (sheet_in l.pages ≡ sheet_in l.initial.pages)
+    (sheet_of l.pages ≡ sheet_of l.initial.pages)
     × (length (vec_items l.pages.accounts) ≡ 512)
-    × IfSome l.last (λ b. Leaves l.settle (sheet_in l.initial.pages) (state b l.pages))
+    × IfSome l.last (λ b. Leaves l.settle (sheet_of l.initial.pages) (state b l.pages))

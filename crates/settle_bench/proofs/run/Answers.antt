@@ -3,7 +3,7 @@ use Rattle.book.specs.States.{state}
 use Rattle.posting.specs.Sheets.{Sheet}
 use Rattle.settle_bench.proofs.Settling.{all_settled}
 use Rattle.settle_bench.proofs.run.Goals as goal
-use Rattle.settle_bench.specs.Days.{sheet_of}
+use Rattle.settle_bench.specs.Days.{given_sheet}
 use Rattle.settle_bench.specs.Full.{DoneTo}
 use Rattle.std.proofs.lemmas.List.{length-map}
 use Rattle.std.proofs.Common.{◌≡◌, length, vec_items, sym, ap, ◌∙◌, subst, arith}
@@ -15,6 +15,6 @@ last_book-requires c =
     sym (length-map accounts (λ a. a.installed)) ∙ ap (λ (s : Sheet). length s.installed) c.in_ok-pages.ensures ∙ many
 
 pub returns : goal.returns
-returns c settled = all_settled (sheet_of c.args.day.now) (state c.in_ok-book.book c.last_book.new.pages) _ _
+returns c settled = all_settled (given_sheet c.args.day.now) (state c.in_ok-book.book c.last_book.new.pages) _ _
     (subst (λ (s : Sheet). DoneTo 16 s (state c.in_ok-book.book c.last_book.new.pages)) c.in_ok-pages.ensures (c.in_ok-book.ensures.done settled))
     c.in_ok-report.ensures

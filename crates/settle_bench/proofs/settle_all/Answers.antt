@@ -1,6 +1,6 @@
 -- Each turn settles one station more.
 use Rattle.std.proofs.Common.{◌≡◌, ℕ, ap, ◌∙◌, subst, arith}
-use Rattle.book.specs.Sheets.{sheet_in}
+use Rattle.posting.specs.Sheets.{sheet_of}
 use Rattle.book.specs.States.{state}
 use Rattle.share.specs.Rules.{Rules}
 use Rattle.settle_bench.proofs.Settling.{none_done, settle_more}
@@ -24,11 +24,11 @@ loop-t-preserved c =
     let after = state c.settle.new.self c.settle.new.pages in
     let r = c.settle.result in (
       c.settle.ensures.tariff ∙ c.loop-t.invariant.0,
-      settle_more (sheet_in c.args.pages.now) z after r t c.loop-t-test.true (ap under c.loop-t.invariant.0) c.loop-t.invariant.1 c.settle.ensures.does
+      settle_more (sheet_of c.args.pages.now) z after r t c.loop-t-test.true (ap under c.loop-t.invariant.0) c.loop-t.invariant.1 c.settle.ensures.does
           c.in_ok-settle.was,
     )
 
 pub returns : goal.returns
 returns c =
     let all : c.loop-t.t ≡ 16 = omega arith in
-    subst (λ (n : ℕ). DoneTo n (sheet_in c.args.pages.now) (state c.loop-t.book c.loop-t.pages)) all c.loop-t.invariant.1
+    subst (λ (n : ℕ). DoneTo n (sheet_of c.args.pages.now) (state c.loop-t.book c.loop-t.pages)) all c.loop-t.invariant.1

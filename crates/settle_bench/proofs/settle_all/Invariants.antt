@@ -1,5 +1,5 @@
 -- The stations so far are settled.
-use Rattle.book.specs.Sheets.{sheet_in}
+use Rattle.posting.specs.Sheets.{sheet_of}
 use Rattle.book.specs.States.{state}
 use Rattle.settle_bench.proofs.settle_all.Given as goal
 use Rattle.settle_bench.specs.Full.{DoneTo}
@@ -7,4 +7,4 @@ use Rattle.tariff.specs.declared.banded.Banded.TheVariants.{From10}
 use Rattle.std.proofs.Common.{◌≡◌}
 
 abbrev pub invariant-loop-t : goal.invariant-loop-t
-invariant-loop-t l = (l.book.tariff ≡ From10) × DoneTo l.t (sheet_in l.initial.pages) (state l.book l.pages)
+invariant-loop-t l = (l.book.tariff ≡ From10) × DoneTo l.t (sheet_of l.initial.pages) (state l.book l.pages)

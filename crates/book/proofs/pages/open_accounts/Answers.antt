@@ -1,7 +1,7 @@
 use Rattle.std.proofs.Common.{◌<◌, map, length, arith}
 use Rattle.book.proofs.OpeningPages.{accounts_more, written_all}
 use Rattle.book.proofs.pages.open_accounts.Goals as goal
-use Rattle.book.specs.Opening.{opened_account}
+use Rattle.posting.specs.Amounts.{opened_account}
 
 pub loop-g-preserved : goal.loop-g-preserved
 loop-g-preserved c =

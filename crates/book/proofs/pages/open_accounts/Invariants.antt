@@ -1,6 +1,6 @@
 use Rattle.book.proofs.pages.open_accounts.Given as goal
 use Rattle.book.specs.Lists.{spliced}
-use Rattle.book.specs.Opening.{opened_account}
+use Rattle.posting.specs.Amounts.{opened_account}
 use Rattle.std.proofs.Common.{◌≡◌, map, take}
 
 abbrev pub invariant-loop-g : goal.invariant-loop-g

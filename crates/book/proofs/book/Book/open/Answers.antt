@@ -63,5 +63,5 @@ returns g c =
       cash = refl;
       openable = checked.1;
       stations = views;
-      pages = begun_for c.len.result (length o.kinds.now) _ o.installed.now c.args.pages.now c.begin.new.self stations refl c.begin.ensures;
+      pages = begun_for c.len.result (length o.kinds.now) _ o.installed.now c.args.pages.now c.begin.new.pages stations refl c.begin.ensures;
     }

@@ -10,7 +10,7 @@ push-requires g c =
     let self = c.args.self.now in
     let loop = c.loop-generator in
     let inv = loop.invariant in
-    let count = count_to (sheet_of self.pages) c.args.block loop.all.items self.members.first loop.generator-iterator.start inv.taken in
+    let count = count_to (sheet_of self.pages.now) c.args.block loop.all.items self.members.first loop.generator-iterator.start inv.taken in
     (omega arith, omega (arith, c.in-Some.ensures.steps.1.0, inv.end, count))
 
 pub loop-generator-preserved : goal.loop-generator-preserved
@@ -20,7 +20,7 @@ loop-generator-preserved g c =
     let inv = loop.invariant in
     let step = c.in-Some.ensures.steps in
     let pushed = ap loads c.push.ensures.items ∙ map_push (λ x. x.load) loop.all.items c.generator_at.result in
-    let more = loads_more (sheet_of self.pages) c.args.block self.members.first loop.generator-iterator.start inv.low in
+    let more = loads_more (sheet_of self.pages.now) c.args.block self.members.first loop.generator-iterator.start inv.low in
     let read = rw step.1.1 at c.generator_at.ensures in
     record {
       low = omega (arith, inv.low, step.1.2);

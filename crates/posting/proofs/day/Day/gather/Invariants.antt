@@ -11,5 +11,5 @@ invariant-loop-generator g l =
       low : first ≤ next;
       high : next ≤ l.generator-iterator.end;
       end : l.generator-iterator.end ≡ first + l.self.members.count;
-      taken : loads l.all.items ≡ loads_from (sheet_of l.self.pages) l.block first (next - first);
+      taken : loads l.all.items ≡ loads_from (sheet_of l.self.pages.now) l.block first (next - first);
     }
