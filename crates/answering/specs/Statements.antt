@@ -17,8 +17,8 @@ abbrev pub station_line : ℕ → ℕ → State → StationLine
 station_line code t s = record {
   station = t;
   code = code;
-  charges = (station_at s t).charges;
-  due = due_of (station_at s t);
+  charges = (station_at s t).balance.charges;
+  due = due_of (station_at s t).balance;
   cash =
       s.cash;
 }
@@ -40,7 +40,7 @@ writing_figures f out = stating
 
 abbrev pub generator_lines : ℕ → State → List GeneratorLine
 generator_lines t s =
-    let own = (station_at s t).members in
+    let own = (station_at s t).plant.members in
     lines_from own.first (take own.count (drop own.first s.accounts))
 
 -- a page under 4,096 bytes, then the pages and the station

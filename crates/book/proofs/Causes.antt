@@ -19,6 +19,7 @@ use Rattle.units.specs.declared.head.Head.{Head}
 use Rattle.units.specs.declared.station.Kind.{Kind}
 use Rattle.units.specs.declared.station.Kind.TheVariants.{Wind, Solar}
 use Rattle.book.specs.Sound.{slots_of}
+use Rattle.units.specs.declared.limits.TheConstants.{BLOCKS, FIRST_SOLAR_NOTICE, LAST_NOTICE, LAST_SOLAR_NOTICE, REVISION_LEAD, SLOT_BLOCKS, STATION_KW}
 
 -- causes
 
@@ -43,9 +44,9 @@ long_enough page given needed h = ltb-false given needed (when_none (ltb given n
 
 fits : (stations generators : ℕ) (l : Lengths) → short_for stations generators l ≡ None → Room stations generators l
 fits stations generators l h =
-    let schedules = first_none (short_page Schedules l.schedules (96 * stations)) _ h in
-    let capacities = first_none (short_page Capacities l.capacities (96 * generators)) _ schedules.1 in
-    let readings = first_none (short_page Readings l.readings (96 * generators)) _ capacities.1 in
+    let schedules = first_none (short_page Schedules l.schedules (BLOCKS * stations)) _ h in
+    let capacities = first_none (short_page Capacities l.capacities (BLOCKS * generators)) _ schedules.1 in
+    let readings = first_none (short_page Readings l.readings (BLOCKS * generators)) _ capacities.1 in
     let accounts = first_none (short_page Accounts l.accounts generators) [] readings.1 in
     record {
       schedules = long_enough Schedules _ _ schedules.0;
@@ -65,29 +66,29 @@ present t s h =
 pub record Admits (a : Head) (t : ℕ) (s : State) : Type 0 where
   pub fit : Fit s
   pub there : t < length s.stations
-  pub takes : is_some (moves (station_at s t).phase a) ≡ true
+  pub takes : is_some (moves (station_at s t).stage.phase a) ≡ true
 
 pub admitted : (a : Head) (t : ℕ) (s : State) → admission a t s ≡ None → Admits a t s
 admitted a t s h =
     let c = first_none (presence t s) _ h in
     let phase = (first_none _ [] c.1).0 in
     let at = present t s c.0 in
-    record { fit = at.0; there = at.1; takes = not-false _ (when_none (not (is_some (moves (station_at s t).phase a))) _ phase) }
+    record { fit = at.0; there = at.1; takes = not-false _ (when_none (not (is_some (moves (station_at s t).stage.phase a))) _ phase) }
 
 -- the generator is there, and its station takes the action in its phase
-pub generator_admitted : (a : Head) (g : ℕ) (s : State) → generator_admission a g s ≡ None → (g < generators s) × (is_some (moves (station_at s (owner_of s g)).phase a) ≡ true)
+pub generator_admitted : (a : Head) (g : ℕ) (s : State) → generator_admission a g s ≡ None → (g < generators s) × (is_some (moves (station_at s (owner_of s g)).stage.phase a) ≡ true)
 generator_admitted a g s h =
     let c = first_none (generator_presence g s) _ h in
     let there = (first_none (no_generator g s) [] (first_none (short_pages s) _ c.0).1).0 in
     let phase = (first_none _ [] c.1).0 in
-    (leb-false _ _ (when_none (leb (generators s) g) _ there), not-false _ (when_none (not (is_some (moves (station_at s (owner_of s g)).phase a))) _ phase))
+    (leb-false _ _ (when_none (leb (generators s) g) _ there), not-false _ (when_none (not (is_some (moves (station_at s (owner_of s g)).stage.phase a))) _ phase))
 
 -- a call's own numbers
 
-pub blocks_pass : (from to : ℕ) → bad_blocks from to ≡ None → (to < 96) × (from ≤ to)
+pub blocks_pass : (from to : ℕ) → bad_blocks from to ≡ None → (to < BLOCKS) × (from ≤ to)
 blocks_pass from to h =
-    let p = or_parts (ltb 95 to) (ltb to from) (when_none (ltb 95 to || ltb to from) _ h) in
-    (omega (arith, ltb-false 95 to p.0), ltb-false to from p.1)
+    let p = or_parts (leb BLOCKS to) (ltb to from) (when_none (leb BLOCKS to || ltb to from) _ h) in
+    (leb-false BLOCKS to p.0, ltb-false to from p.1)
 
 pub value_passes : (i limit v : ℕ) → high_value i limit v ≡ None → v ≤ limit
 value_passes i limit v h = ltb-false limit v (when_none (ltb limit v) _ h)
@@ -99,44 +100,44 @@ values_pass limit vs h k l = ltb-false _ _ (nowhere (ltb limit) vs (unmapped (po
     unmapped None e = refl
     unmapped (Some i) e = absurd (none-some (HighValue i limit) (sym e))
 
--- a notice may be given up to block 92, and its slot is one of the day's
-pub notice_bounds : (k : Kind) (n slot : ℕ) → slot_of k n ≡ Some slot → (n ≤ 92) × (slot < slots_of k)
+-- a notice is not too late, and its slot is one of the day's
+pub notice_bounds : (k : Kind) (n slot : ℕ) → slot_of k n ≡ Some slot → (n ≤ LAST_NOTICE) × (slot < slots_of k)
 notice_bounds Wind n slot e =
-    let in_day = cond_some (leb n 92) (n / 6) slot e in
-    let low = leb-true n 92 in_day.0 in
+    let in_day = cond_some (leb n LAST_NOTICE) (n / SLOT_BLOCKS) slot e in
+    let low = leb-true n LAST_NOTICE in_day.0 in
     (low, omega (arith, low, in_day.1))
 notice_bounds Solar n slot e =
-    let in_light = cond_some (leb 22 n && leb n 75) ((n - 22) / 6) slot e in
-    let low = leb-true n 75 (and_parts (leb 22 n) (leb n 75) in_light.0).1 in
+    let in_light = cond_some (leb FIRST_SOLAR_NOTICE n && leb n LAST_SOLAR_NOTICE) ((n - FIRST_SOLAR_NOTICE) / SLOT_BLOCKS) slot e in
+    let low = leb-true n LAST_SOLAR_NOTICE (and_parts (leb FIRST_SOLAR_NOTICE n) (leb n LAST_SOLAR_NOTICE) in_light.0).1 in
     (omega (arith, low), omega (arith, low, in_light.1))
 
 -- revision k of station x, with notice in block n
 pub record Revisable (k n : ℕ) (vs : List ℕ) (x : Station) : Type 0 where
   pub slot : ℕ
-  pub slotted : slot_of x.kind n ≡ Some slot
-  pub low : n ≤ 92
-  pub counted : length vs ≡ 93 - n
-  pub each : (j : ℕ) → j < length vs → get_or vs j 0 ≤ 6400000
-  pub next : k ≡ count_of x.slots.bits + 1
-  pub fresh : used_slot slot (last_of x.slots.bits) ≡ None
+  pub slotted : slot_of x.plant.kind n ≡ Some slot
+  pub low : n ≤ LAST_NOTICE
+  pub counted : length vs ≡ BLOCKS - REVISION_LEAD - n
+  pub each : (j : ℕ) → j < length vs → get_or vs j 0 ≤ STATION_KW
+  pub next : k ≡ count_of x.stage.slots.bits + 1
+  pub fresh : used_slot slot (last_of x.stage.slots.bits) ≡ None
 
 pub revisable : (k n : ℕ) (vs : List ℕ) (x : Station) → first (revision_causes k n vs x) ≡ None → Revisable k n vs x
 revisable k n vs x h =
-    let o = slot_of x.kind n in
+    let o = slot_of x.plant.kind n in
     let notice = first_none (bad_notice n o) _ h in
-    let count = first_none (value_count (length vs) (93 - n)) _ notice.1 in
-    let values = first_none (high_values 6400000 vs) _ count.1 in
-    let number = first_none (wrong_number k (count_of x.slots.bits)) _ values.1 in
-    let used = first_none (used_slot (unwrap_or o 0) (last_of x.slots.bits)) [] number.1 in
+    let count = first_none (value_count (length vs) (BLOCKS - REVISION_LEAD - n)) _ notice.1 in
+    let values = first_none (high_values STATION_KW vs) _ count.1 in
+    let number = first_none (wrong_number k (count_of x.stage.slots.bits)) _ values.1 in
+    let used = first_none (used_slot (unwrap_or o 0) (last_of x.stage.slots.bits)) [] number.1 in
     let found = noticed o notice.0 in
     record {
       slot = found.0;
       slotted = found.1;
-      low = (notice_bounds x.kind n found.0 found.1).0;
-      counted = eqb-true _ _ (not-false _ (when_none (not (eqb (length vs) (93 - n))) _ count.0));
-      each = values_pass 6400000 vs values.0;
-      next = eqb-true _ _ (not-false _ (when_none (not (eqb k (count_of x.slots.bits + 1))) _ number.0));
-      fresh = subst (λ (z : Option ℕ). used_slot (unwrap_or z 0) (last_of x.slots.bits) ≡ None) found.1 used.0;
+      low = (notice_bounds x.plant.kind n found.0 found.1).0;
+      counted = eqb-true _ _ (not-false _ (when_none (not (eqb (length vs) (BLOCKS - REVISION_LEAD - n))) _ count.0));
+      each = values_pass STATION_KW vs values.0;
+      next = eqb-true _ _ (not-false _ (when_none (not (eqb k (count_of x.stage.slots.bits + 1))) _ number.0));
+      fresh = subst (λ (z : Option ℕ). used_slot (unwrap_or z 0) (last_of x.stage.slots.bits) ≡ None) found.1 used.0;
     }
   where
     noticed : (o : Option ℕ) → bad_notice n o ≡ None → (slot : ℕ) × (o ≡ Some slot)

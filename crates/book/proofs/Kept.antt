@@ -2,10 +2,10 @@
 use Rattle.std.proofs.Common.{◌≡◌, ℕ, zero, suc, ◌+◌, ◌-◌, ◌*◌, ◌<◌, ◌≤◌, true, false, leb, List, length, get_or, Some, None, Option, sym, refl, ap, ◌∙◌, subst, ⊎_elim, arith}
 use Rattle.book.specs.Calls.{first_revised, posted, revising, unless}
 use Rattle.book.specs.Causes.{used_slot}
-use Rattle.book.specs.Lists.{spliced}
+use Rattle.book.specs.Lists.{entry, spliced}
 use Rattle.book.specs.Promises.{Apart, FromTheFourthBlock, NobodyElsesAccount, OneRevisionASlot, Taken}
 use Rattle.book.specs.States.{State, admission, day_at, nobody, owner_of, station_at}
-use Rattle.book.specs.Stations.{moved}
+use Rattle.book.specs.Stations.{moved, on_stage}
 use Rattle.units.specs.declared.head.Head.TheVariants.{Correct, Revise, Settle}
 use Rattle.book.specs.declared.station.Station.{Station}
 use Rattle.book.proofs.Causes.{Admits, Revisable, admitted, first_none, revisable, when_none}
@@ -38,20 +38,20 @@ from_the_fourth_block t k n vs s h =
     let page = p.0.fit.schedules in
     let there = p.0.there in
     let ok = p.1 in
-    let i = 96 * t + first_revised n in
+    let i = entry t (first_revised n) in
     let room : i ≤ length s.schedules = omega (arith, page, there, ok.low) in
     let page_is : (j : ℕ) → get_or (revising t k n vs s).after.schedules j 0 ≡ get_or (spliced i vs s.schedules) j 0
     = λ j. ap (λ (z : State). get_or z.schedules j 0) (left _ s _ (taken_none _ s _ h)) in
     record {
-      earlier = λ b l. page_is (96 * t + b) ∙ below i vs s.schedules 0 room (96 * t + b) (omega arith);
-      later = λ b l m. page_is (96 * t + b) ∙ inside i vs s.schedules 0 room (96 * t + b) (omega arith) (omega (arith, ok.counted, ok.low)) ∙ ap (λ j. get_or vs j 0) (offset t b (first_revised n) l);
-      others = λ u b ne l. page_is (96 * u + b) ∙ ⊎_elim
-          (λ (q : u < t). below i vs s.schedules 0 room (96 * u + b) (omega arith))
-          (λ (q : t ≤ u). above i vs s.schedules 0 room (96 * u + b) (omega (arith, ok.counted, ok.low, ne)))
+      earlier = λ b l. page_is (entry t b) ∙ below i vs s.schedules 0 room (entry t b) (omega arith);
+      later = λ b l m. page_is (entry t b) ∙ inside i vs s.schedules 0 room (entry t b) (omega arith) (omega (arith, ok.counted, ok.low)) ∙ ap (λ j. get_or vs j 0) (offset t b (first_revised n) l);
+      others = λ u b ne l. page_is (entry u b) ∙ ⊎_elim
+          (λ (q : u < t). below i vs s.schedules 0 room (entry u b) (omega arith))
+          (λ (q : t ≤ u). above i vs s.schedules 0 room (entry u b) (omega (arith, ok.counted, ok.low, ne)))
           (cases_lt u t);
     }
   where
-    offset : (t b f : ℕ) → f ≤ b → 96 * t + b - (96 * t + f) ≡ b - f
+    offset : (t b f : ℕ) → f ≤ b → entry t b - entry t f ≡ b - f
     offset t b f l = omega arith
 
 -- the largest number of a set is at least each of its numbers
@@ -70,7 +70,7 @@ pub one_revision_a_slot_lem : OneRevisionASlot
 unfolding last_of
 one_revision_a_slot_lem t k n vs s h =
     let p = (passed t k n vs s h).1 in
-    let bits = (station_at s t).slots.bits in (
+    let bits = (station_at s t).stage.slots.bits in (
       p.slot,
       p.slotted,
       p.next,
@@ -87,8 +87,8 @@ apart : (t : ℕ) (x : Station) (s before after : State) → s.accounts ≡ befo
 apart t x s before after accounts stations is = record {
   accounts = λ h l out.
       ap (λ (z : State). get_or z.accounts h no_account) is
-      ∙ changed_at x.members.first x.members.count (account_after (day_at s t x.members)) s.accounts h no_account (subst (λ (zs : List Account). h < length zs) (sym accounts) l)
-      ∙ cond-false (among x.members.first x.members.count h) _ _ out
+      ∙ changed_at x.plant.members.first x.plant.members.count (account_after (day_at s t x.plant.members)) s.accounts h no_account (subst (λ (zs : List Account). h < length zs) (sym accounts) l)
+      ∙ cond-false (among x.plant.members.first x.plant.members.count h) _ _ out
       ∙ ap (λ (zs : List Account). get_or zs h no_account) accounts;
   stations = λ u ne.
       ap (λ (z : State). get_or z.stations u nobody) is
@@ -98,6 +98,6 @@ apart t x s before after accounts stations is = record {
 
 pub nobody_elses_account : NobodyElsesAccount
 nobody_elses_account s = (
-  λ t h. let a = apart t (moved Settle (station_at s t)) s s _ refl refl (left _ s _ (taken_none _ s _ h)) in record { accounts = a.accounts; stations = a.stations },
-  λ g b kw h. let a = apart (owner_of s g) (moved Correct (station_at s (owner_of s g))) _ s _ refl refl (left _ s _ (taken_none _ s _ h)) in record { accounts = a.accounts; stations = a.stations },
+  λ t h. let a = apart t (on_stage (moved Settle) (station_at s t)) s s _ refl refl (left _ s _ (taken_none _ s _ h)) in record { accounts = a.accounts; stations = a.stations },
+  λ g b kw h. let a = apart (owner_of s g) (on_stage (moved Correct) (station_at s (owner_of s g))) _ s _ refl refl (left _ s _ (taken_none _ s _ h)) in record { accounts = a.accounts; stations = a.stations },
 )

@@ -7,6 +7,7 @@ use Rattle.posting.specs.declared.pages.Pages.{Pages}
 use Rattle.posting.specs.declared.account.Account.{Account}
 use Rattle.std.proofs.lemmas.List.{append_assoc, drop_at, drop-drop, drop_more, flat_map_more, length-append, length-map, length_push, length-replicate, length-take-le, map_more, set_at, take_all, take_at, take_more}
 use Rattle.std.specs.List.{flat_map}
+use Rattle.units.specs.declared.limits.TheConstants.{BLOCKS}
 
 -- the values ws behind the values vs
 spliced_twice : {X : Type 0} (vs ws p : List X) (n : ℕ) → n ≡ length vs → spliced n ws (spliced 0 vs p) ≡ spliced 0 (vs ++ ws) p
@@ -20,10 +21,10 @@ spliced_twice vs ws p n e =
     ∙ ap (λ z. vs ++ (ws ++ z)) (far ∙ ap (λ k. drop k p) long)
     ∙ sym (append_assoc vs ws (drop (0 + length (vs ++ ws)) p))
 
-pub length_days : (kws : List ℕ) → length (flat_map all_day kws) ≡ 96 * length kws
+pub length_days : (kws : List ℕ) → length (flat_map all_day kws) ≡ BLOCKS * length kws
 unfolding all_day
 length_days [] = refl
-length_days (kw ∷ kws) = omega (arith, length-append (replicate 96 kw) (flat_map all_day kws), length-replicate 96 kw, length_days kws)
+length_days (kw ∷ kws) = omega (arith, length-append (replicate BLOCKS kw) (flat_map all_day kws), length-replicate BLOCKS kw, length_days kws)
 
 -- one more value behind the values vs
 spliced_set : {X : Type 0} (vs p : List X) (y : X) (n : ℕ) → n ≡ length vs → n < length p → set (spliced 0 vs p) n y ≡ spliced 0 (vs ++ y ∷ []) p
@@ -42,14 +43,14 @@ module _ (kws : List ℕ) (g : ℕ) (h : g < length kws) where
 
   -- the capacities of one more generator
   pub installed_more : (p page after : List ℕ) → page ≡ spliced 0 (flat_map all_day (take g kws)) p
-      → after ≡ spliced (96 * g) (replicate 96 (get_or kws g 0)) page → after ≡ spliced 0 (flat_map all_day (take (g + 1) kws)) p
+      → after ≡ spliced (BLOCKS * g) (replicate BLOCKS (get_or kws g 0)) page → after ≡ spliced 0 (flat_map all_day (take (g + 1) kws)) p
   unfolding all_day
   installed_more p page after e written =
       let kw = get_or kws g 0 in
-      let far : 96 * g ≡ length (flat_map all_day (take g kws)) = omega (arith, length_days (take g kws), so_many) in
+      let far : BLOCKS * g ≡ length (flat_map all_day (take g kws)) = omega (arith, length_days (take g kws), so_many) in
       written
-      ∙ ap (spliced (96 * g) (all_day kw)) e
-      ∙ spliced_twice (flat_map all_day (take g kws)) (all_day kw) p (96 * g) far
+      ∙ ap (spliced (BLOCKS * g) (all_day kw)) e
+      ∙ spliced_twice (flat_map all_day (take g kws)) (all_day kw) p (BLOCKS * g) far
       ∙ ap (λ vs. spliced 0 vs p) (flat_map_more all_day [] (take g kws) kw ∙ ap (flat_map all_day) (sym (take_more kws g 0 h)))
 
   -- the account of one more generator

@@ -1,7 +1,7 @@
 -- Stations that have just been opened.
 use Rattle.std.proofs.Common.{◌≡◌, ℕ, zero, suc, ◌+◌, ◌<◌, List, [], ◌∷◌, map, length, get_or, sum, take, pos, sym, refl, ap, ◌∙◌, arith, pow_pos}
 use Rattle.book.specs.Opening.{generators_in, station_opened, opened_stations, View, view_of}
-use Rattle.book.specs.Sound.{Covered, generators_of, InDay, InSlots, Laid, Light, nets, slots_of}
+use Rattle.book.specs.Sound.{generators_of, IsSound, Laid, nets, slots_of}
 use Rattle.book.specs.declared.station.Station.{Station}
 use Rattle.std.proofs.lemmas.Int.{ints}
 use Rattle.std.proofs.lemmas.List.Sums.{sum_by-cons}
@@ -48,41 +48,40 @@ sums_opened (s ∷ ss) n [] counts same e = absurd (no_more e)
 sums_opened (s ∷ ss) n (kind ∷ kinds) [] same e = absurd (no_more e)
 sums_opened (s ∷ ss) n (kind ∷ kinds) (count ∷ counts) same e =
     let rest = sums_opened ss (n + count) kinds counts (omega arith) (tails e) in
-    let has : s.members.count ≡ count = ap (λ (v : View). v.count) (heads e) in
-    let net : s.net ≡ pos 0 = ap (λ (v : View). v.net) (heads e) in
+    let has : s.plant.members.count ≡ count = ap (λ (v : View). v.count) (heads e) in
+    let net : s.balance.net ≡ pos 0 = ap (λ (v : View). v.net) (heads e) in
     record {
       stations = omega (arith, rest.stations);
-      generators = omega (arith, has, rest.generators, sum_by-cons (λ (x : Station). x.members.count) s ss, sum_by-cons (λ (x : ℕ). x) count counts);
+      generators = omega (arith, has, rest.generators, sum_by-cons (λ (x : Station). x.plant.members.count) s ss, sum_by-cons (λ (x : ℕ). x) count counts);
       even = omega (arith, ints, net, rest.even);
     }
 
 laid_from : (ss : List Station) (n : ℕ) (kinds counts : List ℕ) → map view_of ss ≡ opened_stations n kinds counts
-    → (k : ℕ) (d : Station) → k < length ss → (get_or ss k d).members.first ≡ n + generators_of (take k ss)
+    → (k : ℕ) (d : Station) → k < length ss → (get_or ss k d).plant.members.first ≡ n + generators_of (take k ss)
 laid_from [] n kinds counts e k d h = absurd (omega arith)
 laid_from (s ∷ ss) n [] counts e k d h = absurd (no_more e)
 laid_from (s ∷ ss) n (kind ∷ kinds) [] e k d h = absurd (no_more e)
 laid_from (s ∷ ss) n (kind ∷ kinds) (count ∷ counts) e zero d h =
-    let begins : s.members.first ≡ n = ap (λ (v : View). v.first) (heads e) in
+    let begins : s.plant.members.first ≡ n = ap (λ (v : View). v.first) (heads e) in
     omega (arith, begins)
 laid_from (s ∷ ss) n (kind ∷ kinds) (count ∷ counts) e (suc k) d h =
-    let has : s.members.count ≡ count = ap (λ (v : View). v.count) (heads e) in
-    omega (arith, has, laid_from ss (n + count) kinds counts (tails e) k d (omega arith), sum_by-cons (λ (x : Station). x.members.count) s (take k ss))
+    let has : s.plant.members.count ≡ count = ap (λ (v : View). v.count) (heads e) in
+    omega (arith, has, laid_from ss (n + count) kinds counts (tails e) k d (omega arith), sum_by-cons (λ (x : Station). x.plant.members.count) s (take k ss))
 
 pub laid_opened : (ss : List Station) (kinds counts : List ℕ) → map view_of ss ≡ opened_stations 0 kinds counts → Laid ss
 laid_opened ss kinds counts e k d h = omega (arith, laid_from ss 0 kinds counts e k d h)
 
--- a station just opened is within the book's limits
-pub light_opened : (s : Station) (n kind count : ℕ) → view_of s ≡ station_opened n kind count → Light s
-light_opened s n kind count e = let z : s.charges ≡ pos 0 = ap (λ (v : View). v.charges) e in omega (arith, ints, z)
-
-pub covered_opened : (s : Station) (n kind count : ℕ) → view_of s ≡ station_opened n kind count → Covered s
-covered_opened s n kind count e = let z : s.net ≡ pos 0 = ap (λ (v : View). v.net) e in omega (arith, ints, z)
-
-pub in_day_opened : (s : Station) (n kind count : ℕ) → view_of s ≡ station_opened n kind count → InDay s
-in_day_opened s n kind count e = let z : s.filed.bits ≡ 0 = ap (λ (v : View). v.filed) e in omega (arith, z)
-
-pub in_slots_opened : (s : Station) (n kind count : ℕ) → view_of s ≡ station_opened n kind count → InSlots s
-in_slots_opened s n kind count e =
-    let z : s.slots.bits ≡ 0 = ap (λ (v : View). v.slots) e in
-    let some = pow_pos (slots_of s.kind) in
-    omega (arith, z, some)
+-- a station just opened is sound
+pub sound_opened : (s : Station) (n kind count : ℕ) → view_of s ≡ station_opened n kind count → IsSound s
+sound_opened s n kind count e =
+    let charges : s.balance.charges ≡ pos 0 = ap (λ (v : View). v.charges) e in
+    let net : s.balance.net ≡ pos 0 = ap (λ (v : View). v.net) e in
+    let filed : s.stage.filed.bits ≡ 0 = ap (λ (v : View). v.filed) e in
+    let slots : s.stage.slots.bits ≡ 0 = ap (λ (v : View). v.slots) e in
+    record {
+      light = omega (arith, ints, charges);
+      covered = omega (arith, ints, net);
+      in_day = omega (arith, filed);
+      in_slots = omega (arith, slots, pow_pos (slots_of s.plant.kind));
+      unposted = λ off. charges;
+    }

@@ -16,7 +16,7 @@ use Rattle.std.specs.Option.{ok_or}
 use Rattle.units.specs.declared.fault.Fault.TheVariants.{NoSuchNumber}
 
 -- a station that the search has passed ends before the generator
-ends : (g : ℕ) (x : Station) → reaches g x ≡ false → x.members.first + x.members.count ≤ g
+ends : (g : ℕ) (x : Station) → reaches g x ≡ false → x.plant.members.first + x.plant.members.count ≤ g
 ends g x e = ltb-false _ _ e
 
 -- where no station reaches it, there is no such generator
@@ -35,7 +35,7 @@ owner_some : (g : ℕ) (s : State) (t : ℕ) → Fit s → Laid s.stations → p
 owner_some g s t fit laid e =
     let ss = s.stations in
     let at = position-Some (reaches g) ss t nobody e in
-    let high : g < (get_or ss t nobody).members.first + (get_or ss t nobody).members.count = ltb-true _ _ at.1 in
+    let high : g < (get_or ss t nobody).plant.members.first + (get_or ss t nobody).plant.members.count = ltb-true _ _ at.1 in
     record {
       fit = fit;
       there = omega (arith, high, end_within ss t nobody at.0 laid);
@@ -45,12 +45,12 @@ owner_some g s t fit laid e =
       is = sym (position_or_len_is (reaches g) ss t nobody (omega (arith, at.0)) at.2 (λ l. at.1));
     }
   where
-    low : (t : ℕ) → t < length s.stations → ((k : ℕ) → k < t → reaches g (get_or s.stations k nobody) ≡ false) → (get_or s.stations t nobody).members.first ≤ g
+    low : (t : ℕ) → t < length s.stations → ((k : ℕ) → k < t → reaches g (get_or s.stations k nobody) ≡ false) → (get_or s.stations t nobody).plant.members.first ≤ g
     low zero h before = omega (arith, laid 0 nobody h)
     low (suc t) h before =
         let passed = ends g (get_or s.stations t nobody) (before t (omega arith)) in
         let first = laid (suc t) nobody h in
-        let end : (get_or s.stations t nobody).members.first + (get_or s.stations t nobody).members.count ≡ generators_of (take (suc t) s.stations) =
+        let end : (get_or s.stations t nobody).plant.members.first + (get_or s.stations t nobody).plant.members.count ≡ generators_of (take (suc t) s.stations) =
         rw add-one at (end_at s.stations t nobody (omega arith) laid) in
         omega (arith, passed, first, end)
 

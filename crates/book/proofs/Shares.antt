@@ -11,7 +11,7 @@ use Rattle.posting.specs.Missing.{missing_in}
 use Rattle.posting.specs.declared.members.Members.{Members}
 
 -- the checks that passed are those of the question
-pub not_refused : (g b : ℕ) (s : State) (m : Members) (rs : List (Option ℕ)) → generator_admission Ask g s ≡ None → m ≡ (station_at s (owner_of s g)).members → rs ≡ s.readings
+pub not_refused : (g b : ℕ) (s : State) (m : Members) (rs : List (Option ℕ)) → generator_admission Ask g s ≡ None → m ≡ (station_at s (owner_of s g)).plant.members → rs ≡ s.readings
     → first (bad_blocks b b ∷ missing_reading (missing_in rs None b m.first m.count) ∷ []) ≡ None → share_refusal g b s ≡ None
 not_refused g b s m rs admitted is read clear =
     let told : first (bad_blocks b b ∷ missing_reading (missing_in s.readings None b m.first m.count) ∷ []) ≡ None =

@@ -1,5 +1,5 @@
 -- The causes for which a call's own numbers refuse it.
-use Rattle.std.specs.Prelude.{ℕ, ◌+◌, ◌-◌, ◌^◌, not, ◌||◌, List, [], ◌∷◌, length, Some, None, Option, ◌==◌, nat_le, nat_lt, position}
+use Rattle.std.specs.Prelude.{ℕ, ◌+◌, ◌-◌, not, ◌||◌, List, [], ◌∷◌, length, Some, None, Option, ◌==◌, nat_le, nat_lt, position}
 use Rattle.units.specs.Refusals.{when}
 use Rattle.book.specs.Stations.{slot_of}
 use Rattle.book.specs.declared.station.Station.{Station}
@@ -7,10 +7,11 @@ use Rattle.std.specs.Option.{option_map, unwrap_or}
 use Rattle.units.specs.Bits.{count_of, last_of}
 use Rattle.units.specs.declared.fault.Fault.{Fault}
 use Rattle.units.specs.declared.fault.Fault.TheVariants.{BadAmount, BadBlocks, BadNotice, HighValue, RevisionNumber, UsedSlot, ValueCount}
+use Rattle.units.specs.declared.limits.TheConstants.{BLOCKS, MOST_AMOUNT, REVISION_LEAD, STATION_KW}
 
--- a block above 95, or the first after the last
+-- a block that the day doesn't have, or the first after the last
 abbrev pub bad_blocks : ℕ → ℕ → Option Fault
-bad_blocks from to = when (nat_lt 95 to || nat_lt to from) (BadBlocks from to)
+bad_blocks from to = when (nat_le BLOCKS to || nat_lt to from) (BadBlocks from to)
 
 -- the value at a position is above its limit
 abbrev pub high_value : ℕ → ℕ → ℕ → Option Fault
@@ -41,14 +42,14 @@ used_slot slot (Some last) = when (nat_le slot last) (UsedSlot slot last)
 -- the causes for which revision k of station x, with notice in block n, is refused for its own numbers
 abbrev pub revision_causes : ℕ → ℕ → List ℕ → Station → List (Option Fault)
 revision_causes k n vs x =
-    let slot = slot_of x.kind n in
+    let slot = slot_of x.plant.kind n in
     bad_notice n slot
-    ∷ value_count (length vs) (93 - n)
-    ∷ high_values 6400000 vs
-    ∷ wrong_number k (count_of x.slots.bits)
-    ∷ used_slot (unwrap_or slot 0) (last_of x.slots.bits)
+    ∷ value_count (length vs) (BLOCKS - REVISION_LEAD - n)
+    ∷ high_values STATION_KW vs
+    ∷ wrong_number k (count_of x.stage.slots.bits)
+    ∷ used_slot (unwrap_or slot 0) (last_of x.stage.slots.bits)
     ∷ []
 
--- an amount of nothing, or above 10^12 paise
+-- an amount of nothing, or above the most of one call
 abbrev pub bad_amount : ℕ → ℕ → Option Fault
-bad_amount t x = when (x == 0 || nat_lt (10 ^ 12) x) (BadAmount t x)
+bad_amount t x = when (x == 0 || nat_lt MOST_AMOUNT x) (BadAmount t x)

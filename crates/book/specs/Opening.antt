@@ -1,5 +1,5 @@
 -- What opens a book: the causes that refuse it, and the stations and pages as the day begins.
-use Rattle.std.specs.Prelude.{◌≡◌, ℕ, ◌+◌, ◌*◌, ◌<◌, ◌≤◌, Bool, cond, not, ◌&&◌, ◌||◌, List, [], ◌∷◌, map, length, replicate, sum, zip, position, ℤ, pos, Some, None, vec_items, Option, Result, MatchResult, ◌==◌, nat_le, nat_lt, slice_index}
+use Rattle.std.specs.Prelude.{◌≡◌, ℕ, ◌+◌, ◌*◌, ◌<◌, ◌≤◌, Bool, if◌then◌else◌, not, ◌&&◌, ◌||◌, List, [], ◌∷◌, map, length, replicate, sum, zip, position, ℤ, pos, Some, None, vec_items, Option, Result, MatchResult, ◌==◌, nat_le, nat_lt, slice_index}
 use Rattle.book.specs.Lists.{spliced}
 use Rattle.units.specs.Refusals.{first, when}
 use Rattle.book.specs.States.{Room, lengths_in, short_for}
@@ -14,6 +14,7 @@ use Rattle.tariff.specs.declared.tariff.Tariff as tariff
 use Rattle.units.specs.declared.call.Opening.{Opening}
 use Rattle.units.specs.declared.fault.Fault.{Fault}
 use Rattle.units.specs.declared.fault.Fault.TheVariants.{BadStation, InstalledCount, InstalledRange, StationCount}
+use Rattle.units.specs.declared.limits.TheConstants.{ALL_GENERATORS, BLOCKS, GENERATORS, LEAST_INSTALLED, MOST_INSTALLED, STATIONS}
 use Rattle.units.specs.declared.station.Kind.{Kind}
 use Rattle.units.specs.declared.station.Kind.TheVariants.{Wind, Solar}
 use Rattle.units.specs.declared.station.Phase.{Phase}
@@ -25,14 +26,14 @@ generators_in counts = sum counts
 
 -- the causes
 
--- not 1 to 16 stations, or not as many counts as kinds
+-- no station or too many, or not as many counts as kinds
 abbrev pub station_count_fault : ℕ → ℕ → Option Fault
 station_count_fault kinds counts =
-    when (kinds == 0 || (nat_lt 16 kinds || not (counts == kinds))) (StationCount kinds counts)
+    when (kinds == 0 || (nat_lt STATIONS kinds || not (counts == kinds))) (StationCount kinds counts)
 
--- a wind station, 0, or a solar one, 1, of 1 to 32 generators
+-- a wind station, 0, or a solar one, 1, with some generators, but not too many
 abbrev pub sound_station : ℕ → ℕ → Bool
-sound_station kind count = nat_le kind 1 && (nat_le 1 count && nat_le count 32)
+sound_station kind count = nat_le kind 1 && (nat_le 1 count && nat_le count GENERATORS)
 
 -- a kind and a count that are not sound
 abbrev pub unsound : ℕ × ℕ → Bool
@@ -46,9 +47,9 @@ bad_stations kinds counts = option_map BadStation (position unsound (zip kinds c
 abbrev pub installed_count_fault : ℕ → ℕ → Option Fault
 installed_count_fault given needed = when (not (given == needed)) (InstalledCount given needed)
 
--- an installed power outside 1,000 to 200,000 kW
+-- an installed power that no generator may have
 abbrev pub outside : ℕ → Bool
-outside kw = nat_lt kw 1000 || nat_lt 200000 kw
+outside kw = nat_lt kw LEAST_INSTALLED || nat_lt MOST_INSTALLED kw
 
 -- the first of the generators with such a power
 abbrev pub bad_installed : List ℕ → Option Fault
@@ -83,18 +84,18 @@ pub record View : Type 0 where
 
 abbrev pub view_of : Station → View
 view_of s = record {
-  kind = s.kind;
-  phase = s.phase;
-  first = s.members.first;
-  count = s.members.count;
-  filed = s.filed.bits;
-  slots = s.slots.bits;
-  charges = s.charges;
-  net = s.net;
+  kind = s.plant.kind;
+  phase = s.stage.phase;
+  first = s.plant.members.first;
+  count = s.plant.members.count;
+  filed = s.stage.filed.bits;
+  slots = s.stage.slots.bits;
+  charges = s.balance.charges;
+  net = s.balance.net;
 }
 
 abbrev pub kind_of : ℕ → Kind
-kind_of number = cond (number == 0) Wind Solar
+kind_of number = if number == 0 then Wind else Solar
 
 -- a station of `count` generators from number `from` on, with nothing filed, charged, paid or drawn
 abbrev pub view_opened : ℕ → Kind → ℕ → View
@@ -123,31 +124,31 @@ opened_stations from (kind ∷ kinds) (count ∷ counts) =
 
 -- one number for each block of a day
 unfoldable pub all_day : ℕ → List ℕ
-all_day kw = replicate 96 kw
+all_day kw = replicate BLOCKS kw
 
 -- The used fronts: no schedule, the installed powers as capacities, no reading, and empty accounts.
 -- What lies beyond them is kept.
 pub record Begun (stations : ℕ) (installed : List ℕ) (before after : Pages) : Type 0 where
   pub schedules : vec_items after.schedules
-      ≡ spliced 0 (replicate (96 * stations) 0) (vec_items before.schedules)
+      ≡ spliced 0 (replicate (BLOCKS * stations) 0) (vec_items before.schedules)
   pub capacities : vec_items after.capacities
       ≡ spliced 0 (flat_map all_day installed) (vec_items before.capacities)
   pub readings : vec_items after.readings
-      ≡ spliced 0 (replicate (96 * length installed) None) (vec_items before.readings)
+      ≡ spliced 0 (replicate (BLOCKS * length installed) None) (vec_items before.readings)
   pub accounts : vec_items after.accounts
       ≡ spliced 0 (map opened_account installed) (vec_items before.accounts)
 
 -- what the checks find of an opening
 
--- each installed power is one of 1,000 to 200,000 kW
+-- each installed power is one that a generator may have
 abbrev pub Installable : List ℕ → Type 0
 Installable kws =
-    (k : ℕ) → k < length kws → (1000 ≤ slice_index kws k) × (slice_index kws k ≤ 200000)
+    (k : ℕ) → k < length kws → (LEAST_INSTALLED ≤ slice_index kws k) × (slice_index kws k ≤ MOST_INSTALLED)
 
 -- sound stations, with as many kinds as counts
 pub record Stands (kinds counts : List ℕ) : Type 0 where
   pub some : 0 < length kinds
-  pub few : length kinds ≤ 16
+  pub few : length kinds ≤ STATIONS
   pub same : length counts ≡ length kinds
   pub sound : bad_stations kinds counts ≡ None
 
@@ -155,7 +156,7 @@ pub record Stands (kinds counts : List ℕ) : Type 0 where
 pub record Openable (o : Opening) (p : Pages) (n : ℕ) : Type 0 where
   pub stations : Stands o.kinds.now o.counts.now
   pub all : n ≡ generators_in o.counts.now
-  pub most : n ≤ 512
+  pub most : n ≤ ALL_GENERATORS
   pub each : length o.installed.now ≡ n
   pub installable : Installable o.installed.now
   pub room : Room (length o.kinds.now) n (lengths_in p)

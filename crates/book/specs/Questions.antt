@@ -4,11 +4,10 @@ use Rattle.book.specs.Calls.{missing_reading}
 use Rattle.book.specs.Causes.{bad_blocks}
 use Rattle.units.specs.Refusals.{first}
 use Rattle.book.specs.States.{State, admission, day_at, generator_admission, owner_of, station_at}
-use Rattle.book.specs.Stations.{due_of}
+use Rattle.book.specs.Stations.{Ask, due_of}
 use Rattle.book.specs.declared.answers.Progress.{Progress}
 use Rattle.book.specs.declared.answers.Statement.{Statement}
-use Rattle.book.specs.Stations.{Ask}
-use Rattle.book.specs.declared.station.Station.{Station}
+use Rattle.book.specs.declared.station.stage.Stage.{Stage}
 use Rattle.posting.specs.Days.{figures_at, no_account, share_at}
 use Rattle.posting.specs.Missing.{missing_in}
 use Rattle.share.specs.declared.amounts.Amounts.{Amounts}
@@ -16,12 +15,14 @@ use Rattle.units.specs.Bits.{count_of}
 use Rattle.units.specs.declared.fault.Fault.{Fault}
 
 -- the phase, the number of filed blocks and that of revisions used
-abbrev pub progress_of : Station → Progress
+abbrev pub progress_of : Stage → Progress
 progress_of x = record { phase = x.phase; filed = count_of x.filed.bits; revisions = count_of x.slots.bits }
 
 -- the first reading of the station t that is missing in the block b
 abbrev pub missing_in_block : ℕ → ℕ → State → Option Fault
-missing_in_block t b s = missing_reading (missing_in s.readings None b (station_at s t).members.first (station_at s t).members.count)
+missing_in_block t b s =
+    let m = (station_at s t).plant.members in
+    missing_reading (missing_in s.readings None b m.first m.count)
 
 -- a question on the block b of station t
 abbrev pub charge_refusal : ℕ → ℕ → State → Option Fault
@@ -29,7 +30,7 @@ charge_refusal t b s = first (admission Ask t s ∷ bad_blocks b b ∷ missing_i
 
 -- the charge of the block, and by how much the station deviates from its schedule
 abbrev pub charge_answer : ℕ → ℕ → State → Amounts
-charge_answer t b s = figures_at (day_at s t (station_at s t).members) b
+charge_answer t b s = figures_at (day_at s t (station_at s t).plant.members) b
 
 -- a question on the block b of generator g
 abbrev pub share_refusal : ℕ → ℕ → State → Option Fault
@@ -39,18 +40,19 @@ share_refusal g b s = first (generator_admission Ask g s ∷ bad_blocks b b ∷ 
 abbrev pub share_answer : ℕ → ℕ → State → Amounts
 share_answer g b s =
     let t = owner_of s g in
-    let m = (station_at s t).members in
+    let m = (station_at s t).plant.members in
     share_at (day_at s t m) (g - m.first) b
 
 -- the statement of station t, under a tariff with this code
 pub record Stated (code t : ℕ) (s : State) (a : Statement) : Type 0 where
   pub station : a.station ≡ t
   pub code_is : a.code ≡ code
-  pub charges : a.charges ≡ (station_at s t).charges
-  pub due : a.due ≡ due_of (station_at s t)
+  pub charges : a.charges ≡ (station_at s t).balance.charges
+  pub due : a.due ≡ due_of (station_at s t).balance
   pub cash : a.cash ≡ s.cash
-  pub first_is : a.first ≡ (station_at s t).members.first
-  pub accounts : a.accounts.now ≡ take (station_at s t).members.count (drop (station_at s t).members.first s.accounts)
+  pub first_is : a.first ≡ (station_at s t).plant.members.first
+  pub accounts : a.accounts.now
+      ≡ take (station_at s t).plant.members.count (drop (station_at s t).plant.members.first s.accounts)
 
 -- what stands on generator g's account
 abbrev pub account_answer : ℕ → State → Amounts

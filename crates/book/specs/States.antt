@@ -1,8 +1,8 @@
 -- The book and the pages lent with it, and what every call tests first.
 use Rattle.std.specs.Prelude.{◌≡◌, ℕ, ◌+◌, ◌*◌, ◌<◌, ◌≤◌, Bool, not, List, [], ◌∷◌, length, is_some, vec_items, Option, nat_le, nat_lt, slice_index_or}
 use Rattle.units.specs.Refusals.{first, when}
-use Rattle.book.specs.Sound.{Bounded, Changes, generators_of}
-use Rattle.book.specs.Stations.{fresh, moved, moves}
+use Rattle.book.specs.Sound.{Changes, generators_of, IsBounded}
+use Rattle.book.specs.Stations.{fresh, moved, moves, on_stage}
 use Rattle.book.specs.declared.book.Book.{Book}
 use Rattle.posting.specs.declared.pages.Pages.{Pages}
 use Rattle.units.specs.declared.head.Head.{Head}
@@ -19,7 +19,9 @@ use Rattle.units.specs.declared.fault.Fault.{Fault}
 use Rattle.units.specs.declared.fault.Fault.TheVariants.{NoSuchNumber, ShortPage, WrongPhase}
 use Rattle.units.specs.declared.fault.Page.{Page}
 use Rattle.units.specs.declared.fault.Page.TheVariants.{Schedules, Capacities, Readings, Accounts}
+use Rattle.units.specs.declared.limits.TheConstants.{BLOCKS}
 use Rattle.units.specs.declared.station.Kind.TheVariants.{Wind}
+use Rattle.units.specs.declared.station.Phase.{Phase}
 use Rattle.std.proofs.Common.{lit<, lit≤}
 
 -- by what a book settles, and what it and its pages hold
@@ -67,7 +69,7 @@ station_at s t = slice_index_or s.stations t nobody
 
 -- a station has the generator, or one before it has
 abbrev pub reaches : ℕ → Station → Bool
-reaches g x = nat_lt g (x.members.first + x.members.count)
+reaches g x = nat_lt g (x.plant.members.first + x.plant.members.count)
 
 -- the station of a generator: the first that reaches it
 abbrev pub owner_of : State → ℕ → ℕ
@@ -104,9 +106,9 @@ lengths_of s = record {
 -- the first page that is too short for so many stations and generators
 abbrev pub short_for : ℕ → ℕ → Lengths → Option Fault
 short_for stations generators l = first (
-    short_page Schedules l.schedules (96 * stations)
-    ∷ short_page Capacities l.capacities (96 * generators)
-    ∷ short_page Readings l.readings (96 * generators)
+    short_page Schedules l.schedules (BLOCKS * stations)
+    ∷ short_page Capacities l.capacities (BLOCKS * generators)
+    ∷ short_page Readings l.readings (BLOCKS * generators)
     ∷ short_page Accounts l.accounts generators
     ∷ [])
 
@@ -115,9 +117,9 @@ short_pages s = short_for (length s.stations) (generators s) (lengths_of s)
 
 -- the pages have room for so many stations and generators
 pub record Room (stations generators : ℕ) (l : Lengths) : Type 0 where
-  pub schedules : 96 * stations ≤ l.schedules
-  pub capacities : 96 * generators ≤ l.capacities
-  pub readings : 96 * generators ≤ l.readings
+  pub schedules : BLOCKS * stations ≤ l.schedules
+  pub capacities : BLOCKS * generators ≤ l.capacities
+  pub readings : BLOCKS * generators ≤ l.readings
   pub accounts : generators ≤ l.accounts
 
 -- no page is too short
@@ -134,8 +136,8 @@ abbrev pub no_generator : ℕ → State → Option Fault
 no_generator g s = when (nat_le (generators s) g) (NoSuchNumber g)
 
 -- station t does not take the action in its phase
-abbrev pub wrong_phase : Head → ℕ → Station → Option Fault
-wrong_phase a t x = when (not (is_some (moves x.phase a))) (WrongPhase t x.phase)
+abbrev pub wrong_phase : Head → ℕ → Phase → Option Fault
+wrong_phase a t p = when (not (is_some (moves p a))) (WrongPhase t p)
 
 -- the pages fit, and there is station t
 abbrev pub presence : ℕ → State → Option Fault
@@ -143,7 +145,7 @@ presence t s = first (short_pages s ∷ no_station t s ∷ [])
 
 -- a call on station t that depends on its phase
 abbrev pub admission : Head → ℕ → State → Option Fault
-admission a t s = first (presence t s ∷ wrong_phase a t (station_at s t) ∷ [])
+admission a t s = first (presence t s ∷ wrong_phase a t (station_at s t).stage.phase ∷ [])
 
 -- the pages fit, and there is generator g
 abbrev pub generator_presence : ℕ → State → Option Fault
@@ -151,12 +153,14 @@ generator_presence g s = first (short_pages s ∷ no_generator g s ∷ [])
 
 -- a call on generator g that depends on its station's phase
 abbrev pub generator_admission : Head → ℕ → State → Option Fault
-generator_admission a g s = first (generator_presence g s ∷ wrong_phase a (owner_of s g) (station_at s (owner_of s g)) ∷ [])
+generator_admission a g s =
+    let t = owner_of s g in
+    first (generator_presence g s ∷ wrong_phase a t (station_at s t).stage.phase ∷ [])
 
 -- x is the station t of the list: its sums fit, and with this cash it may stay as it is
 pub record StationIs (ss : List Station) (cash t : ℕ) (x : Station) : Type 0 where
   pub is : x ≡ slice_index_or ss t nobody
-  pub bounded : Bounded x
+  pub bounded : IsBounded x.balance
   pub stays : Changes ss t cash x cash
 
 -- x is station t, and the pages fit
@@ -167,7 +171,7 @@ pub record Found (t : ℕ) (s : State) (x : Station) : Type 0 where
 -- x is station t in the phase that the action leads to, which it may become, and the pages fit
 pub record Admitted (a : Head) (t : ℕ) (s : State) (x : Station) : Type 0 where
   pub fit : Fit s
-  pub is : x ≡ moved a (station_at s t)
+  pub is : x ≡ on_stage (moved a) (station_at s t)
   pub becomes : Changes s.stations t s.cash x s.cash
 
 -- station t has generator g, and the pages fit
@@ -175,12 +179,12 @@ pub record Owner (g : ℕ) (s : State) (t : ℕ) : Type 0 where
   pub fit : Fit s
   pub there : g < generators s
   pub within : t < length s.stations
-  pub low : (station_at s t).members.first ≤ g
-  pub high : g < (station_at s t).members.first + (station_at s t).members.count
+  pub low : (station_at s t).plant.members.first ≤ g
+  pub high : g < (station_at s t).plant.members.first + (station_at s t).plant.members.count
   pub is : t ≡ owner_of s g
 
 -- the same, and x is that station in the phase that the action leads to, which it may become
 pub record Owned (a : Head) (g : ℕ) (s : State) (x : ℕ × Station) : Type 0 where
   pub owner : Owner g s x.0
-  pub is : x.1 ≡ moved a (station_at s x.0)
+  pub is : x.1 ≡ on_stage (moved a) (station_at s x.0)
   pub becomes : Changes s.stations x.0 s.cash x.1 s.cash

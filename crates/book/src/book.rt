@@ -9,9 +9,10 @@ mod posting_calls;
 mod questions;
 mod runs;
 
-ghost use Rattle.std.specs.Prelude.{◌≡◌, ◌^◌, ◌<◌, ◌≤◌, All, pos, ◌+ℤ◌};
+ghost use Rattle.std.specs.Prelude.{◌≡◌, ◌<◌, ◌≤◌, All, pos, ◌+ℤ◌};
 ghost use Rattle.arrayvec.specs.ArrayVec.{array_vec_len};
-ghost use Rattle.book.specs.Sound.{Covered, generators_of, InDay, InSlots, Laid, Light, nets};
+ghost use Rattle.book.specs.Sound.{generators_of, IsSound, Laid, nets};
+ghost use Rattle.units.specs.declared.limits.TheConstants.{ALL_GENERATORS, MOST_CASH, STATIONS};
 
 use crate::station::Station;
 use arrayvec::ArrayVec;
@@ -28,14 +29,11 @@ pub struct Book<T: Tariff, K: Key> {
     stations: ArrayVec<Station, STATIONS>,
     generators: usize,
     cash: u64,
-    ghost few: { (0 < array_vec_len stations) × (array_vec_len stations ≤ 16) },
-    ghost most: { generators ≤ 512 },
+    ghost few: { (0 < array_vec_len stations) × (array_vec_len stations ≤ STATIONS) },
+    ghost most: { generators ≤ ALL_GENERATORS },
     ghost all: { generators_of stations.items ≡ generators },
     ghost laid: { Laid stations.items },
-    ghost low: { cash ≤ 10 ^ 15 },
+    ghost low: { cash ≤ MOST_CASH },
     ghost even: { nets stations.items +ℤ pos cash ≡ pos 0 },
-    ghost light: { All Light stations.items },
-    ghost covered: { All Covered stations.items },
-    ghost in_day: { All InDay stations.items },
-    ghost in_slots: { All InSlots stations.items },
+    ghost sound: { All IsSound stations.items },
 }

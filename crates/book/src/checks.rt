@@ -10,11 +10,11 @@ use posting::members::Members;
 use posting::missing::{first_missing, missing_in_block};
 use posting::place::Place;
 use units::fault::Fault;
-use units::limits::BLOCKS;
+use units::limits::{BLOCKS, MOST_AMOUNT};
 
 /// The blocks `from` to `to` are blocks of the day, in this order.
 pub fn in_day(from: u64, to: u64) -> Result<(), Fault>
-    ensures { Checks (bad_blocks from to) (λ _. (from ≤ to) × (to < 96)) result }
+    ensures { Checks (bad_blocks from to) (λ _. (from ≤ to) × (to < BLOCKS)) result }
 {
     if to >= BLOCKS as u64 || from > to {
         return Err(Fault::BadBlocks { from, to });
@@ -37,20 +37,17 @@ fn at_most(position: u64, limit: u32, value: u64) -> Result<u32, Fault>
 
 /// A value for the blocks `from` to `to`: these are blocks of the day, and it is at most its limit.
 pub fn in_blocks(from: u64, to: u64, limit: u32, value: u64) -> Result<u32, Fault>
-    ensures { Checks (first (bad_blocks from to ∷ high_value 0 limit value ∷ [])) (λ kw. (from ≤ to) × (to < 96) × (kw ≡ value)) result }
+    ensures { Checks (first (bad_blocks from to ∷ high_value 0 limit value ∷ [])) (λ kw. (from ≤ to) × (to < BLOCKS) × (kw ≡ value)) result }
 {
     in_day(from, to)?;
     at_most(0, limit, value)
 }
 
-/// The most that one call pays or draws, in paise.
-const AMOUNT_LIMIT: u64 = 1_000_000_000_000;
-
 /// An amount that a station may pay or draw.
 pub fn sound_amount(t: u64, amount: u64) -> Result<(), Fault>
-    ensures { Checks (bad_amount t amount) (λ _. (0 < amount) × (amount ≤ 1000000000000)) result }
+    ensures { Checks (bad_amount t amount) (λ _. (0 < amount) × (amount ≤ MOST_AMOUNT)) result }
 {
-    if !(1..=AMOUNT_LIMIT).contains(&amount) {
+    if !(1..=MOST_AMOUNT).contains(&amount) {
         return Err(Fault::BadAmount { station: t, amount });
     }
     Ok(())
@@ -71,7 +68,7 @@ pub fn as_many(given: usize, needed: u64) -> Result<(), Fault>
 
 /// The values, if each is at most the limit.
 pub fn all_at_most(limit: u32, values: &[u64]) -> Result<ArrayVec<u32, BLOCKS>, Fault>
-    requires { length values.now ≤ 96 }
+    requires { length values.now ≤ BLOCKS }
     ensures { Checks (high_values limit values.now) (λ x. x.items ≡ values.now) result }
 {
     let mut kept = ArrayVec::new();
@@ -107,7 +104,7 @@ pub fn complete(
 
 /// The block is one of the day, and no reading of a station is missing in it.
 pub fn block_read(readings: &[Option<u32>], members: Members, block: u64) -> Result<(), Fault>
-    ensures { Checks (first (bad_blocks block block ∷ missing_reading (missing_in readings.now None block members.first members.count) ∷ [])) (λ _. block < 96) result }
+    ensures { Checks (first (bad_blocks block block ∷ missing_reading (missing_in readings.now None block members.first members.count) ∷ [])) (λ _. block < BLOCKS) result }
 {
     in_day(block, block)?;
     none_missing(missing_in_block(readings, members, None, block as u8))

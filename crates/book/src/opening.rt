@@ -3,6 +3,7 @@ ghost use Rattle.std.specs.Prelude.{◌≡◌, ◌<◌, ◌≤◌, map, length, 
 ghost use Rattle.book.specs.Opening.{bad_installed, bad_stations, generators_in, Installable, installed_count_fault, kind_of, opened_stations, outside, sound_station, Stands, station_count_fault, unsound, view_of, view_opened};
 ghost use Rattle.units.specs.Refusals.{Checks};
 ghost use Rattle.posting.specs.Members.{Numbered};
+ghost use Rattle.units.specs.declared.limits.TheConstants.{ALL_GENERATORS};
 
 use crate::station::Station;
 use arrayvec::ArrayVec;
@@ -11,9 +12,9 @@ use units::fault::Fault;
 use units::limits::{GENERATORS, LEAST_INSTALLED, MOST_INSTALLED, STATIONS};
 use units::station::Kind;
 
-/// There are 1 to 16 stations, and as many counts as kinds.
+/// There are stations, but not too many, and as many counts as kinds.
 pub fn station_count(kinds: usize, counts: usize) -> Result<(), Fault>
-    ensures { Checks (station_count_fault kinds counts) (λ _. (0 < kinds) × (kinds ≤ 16) × (counts ≡ kinds)) result }
+    ensures { Checks (station_count_fault kinds counts) (λ _. (0 < kinds) × (kinds ≤ STATIONS) × (counts ≡ kinds)) result }
 {
     if !(1..=STATIONS).contains(&kinds) || counts != kinds {
         return Err(Fault::StationCount {
@@ -24,7 +25,7 @@ pub fn station_count(kinds: usize, counts: usize) -> Result<(), Fault>
     Ok(())
 }
 
-/// A wind or a solar station of 1 to 32 generators.
+/// A wind or a solar station with some generators, but not too many.
 fn is_sound(kind: u64, count: u64) -> bool
     ensures { result ≡ sound_station kind count }
 {
@@ -44,7 +45,7 @@ fn first_unsound(kinds: &[u64], counts: &[u64]) -> Option<usize>
 /// The generators of all stations.
 #[tactic(auto, unfolding(crate::specs::Opening::generators_in))]
 fn total(counts: &[u64]) -> usize
-    requires { generators_in counts.now ≤ 512 }
+    requires { generators_in counts.now ≤ ALL_GENERATORS }
     ensures { result ≡ generators_in counts.now }
 {
     counts.iter().sum::<u64>() as usize
@@ -52,9 +53,9 @@ fn total(counts: &[u64]) -> usize
 
 /// Each station is sound: the number of their generators.
 pub fn sound_stations(kinds: &[u64], counts: &[u64]) -> Result<usize, Fault>
-    requires few { length kinds.now ≤ 16 }
+    requires few { length kinds.now ≤ STATIONS }
     requires same { length counts.now ≡ length kinds.now }
-    ensures { Checks (bad_stations kinds.now counts.now) (λ n. (n ≡ generators_in counts.now) × (n ≤ 512)) result }
+    ensures { Checks (bad_stations kinds.now counts.now) (λ n. (n ≡ generators_in counts.now) × (n ≤ ALL_GENERATORS)) result }
 {
     match first_unsound(kinds, counts) {
         Some(t) => Err(Fault::BadStation { station: t as u64 }),

@@ -3,7 +3,7 @@ use Rattle.std.proofs.Common.{◌≡◌, ℕ, zero, suc, ◌+◌, ◌-◌, ◌*�
 use Rattle.book.proofs.OpeningPages.{length_days}
 use Rattle.book.proofs.OpeningStations.{opened_at, sums_opened}
 use Rattle.book.proofs.Writes.{inside, length_spliced}
-use Rattle.book.specs.Lists.{spliced}
+use Rattle.book.specs.Lists.{entry, spliced}
 use Rattle.book.specs.Opening.{Installable, Openable, Opened, View, all_day, generators_in, opened_stations, station_opened, view_of}
 use Rattle.book.specs.Sound.{generators_of}
 use Rattle.book.specs.States.{Lengths, Room, lengths_in, nobody, state}
@@ -23,19 +23,20 @@ use Rattle.std.proofs.lemmas.List.{get_or_append_left, get_or-append_right, get_
 use Rattle.std.specs.List.{flat_map}
 use Rattle.tariff.specs.declared.tariff.Tariff as tariff
 use Rattle.units.specs.declared.call.Opening.{Opening}
+use Rattle.units.specs.declared.limits.TheConstants.{BLOCKS}
 
 -- the same number in each block of a generator's day
-days : (kws : List ℕ) (g b : ℕ) → g < length kws → b < 96 → get_or (flat_map all_day kws) (96 * g + b) 0 ≡ get_or kws g 0
+days : (kws : List ℕ) (g b : ℕ) → g < length kws → b < BLOCKS → get_or (flat_map all_day kws) (entry g b) 0 ≡ get_or kws g 0
 unfolding all_day
 days [] g b h l = absurd (omega arith)
 days (kw ∷ kws) zero b h l =
-    let long = length-replicate 96 kw in
-    let place : 96 * 0 + b ≡ b = omega arith in
-    ap (λ k. get_or (replicate 96 kw ++ flat_map all_day kws) k 0) place
-    ∙ get_or_append_left (replicate 96 kw) (flat_map all_day kws) 0 b (omega (arith, long)) ∙ get_or-replicate 96 b kw 0 l
+    let long = length-replicate BLOCKS kw in
+    let place : entry 0 b ≡ b = omega arith in
+    ap (λ k. get_or (replicate BLOCKS kw ++ flat_map all_day kws) k 0) place
+    ∙ get_or_append_left (replicate BLOCKS kw) (flat_map all_day kws) 0 b (omega (arith, long)) ∙ get_or-replicate BLOCKS b kw 0 l
 days (kw ∷ kws) (suc g) b h l =
-    let place : 96 * suc g + b - 96 ≡ 96 * g + b = omega arith in
-    get_or-append_right (replicate 96 kw) (flat_map all_day kws) 96 (96 * suc g + b) 0 (length-replicate 96 kw) (omega arith)
+    let place : BLOCKS * suc g + b - BLOCKS ≡ entry g b = omega arith in
+    get_or-append_right (replicate BLOCKS kw) (flat_map all_day kws) BLOCKS (BLOCKS * suc g + b) 0 (length-replicate BLOCKS kw) (omega arith)
     ∙ ap (λ k. get_or (flat_map all_day kws) k 0) place ∙ days kws g b (omega arith) l
 
 -- a page with the values vs at its front, where it has room for them
@@ -90,12 +91,12 @@ begun_kept tariff key o before begun b op =
     let all = sum y.counts in
     let kw : ℕ = 0 in
     let no : Option ℕ = None in
-    let schedules = front (replicate (96 * length y.kinds) kw) (vec_items before.schedules) (vec_items begun.schedules) 0 (96 * n)
-    op.pages.schedules (omega (arith, p.same, length-replicate (96 * length y.kinds) kw)) p.room.schedules in
-    let capacities = front (flat_map all_day y.installed) (vec_items before.capacities) (vec_items begun.capacities) 0 (96 * all)
+    let schedules = front (replicate (BLOCKS * length y.kinds) kw) (vec_items before.schedules) (vec_items begun.schedules) 0 (BLOCKS * n)
+    op.pages.schedules (omega (arith, p.same, length-replicate (BLOCKS * length y.kinds) kw)) p.room.schedules in
+    let capacities = front (flat_map all_day y.installed) (vec_items before.capacities) (vec_items begun.capacities) 0 (BLOCKS * all)
     op.pages.capacities (omega (arith, p.powers, length_days y.installed)) p.room.capacities in
-    let readings = front (replicate (96 * length y.installed) no) (vec_items before.readings) (vec_items begun.readings) None (96 * all)
-    op.pages.readings (omega (arith, p.powers, length-replicate (96 * length y.installed) no)) p.room.readings in
+    let readings = front (replicate (BLOCKS * length y.installed) no) (vec_items before.readings) (vec_items begun.readings) None (BLOCKS * all)
+    op.pages.readings (omega (arith, p.powers, length-replicate (BLOCKS * length y.installed) no)) p.room.readings in
     let accounts = front (map opened_account y.installed) (vec_items before.accounts) (vec_items begun.accounts) no_account all
     op.pages.accounts (length-map y.installed opened_account ∙ p.powers) p.room.accounts in
     let account : (g : ℕ) → g < all → get_or (vec_items begun.accounts) g no_account ≡ opened_account (get_or y.installed g 0)
@@ -112,17 +113,17 @@ begun_kept tariff key o before begun b op =
       cash = omega (arith, op.cash);
       schedules = record {
         room = schedules.0;
-        at = λ u c h l. schedules.1 (96 * u + c) (omega arith) ∙ get_or-replicate (96 * length y.kinds) (96 * u + c) 0 0 (omega (arith, p.same));
+        at = λ u c h l. schedules.1 (entry u c) (omega arith) ∙ get_or-replicate (BLOCKS * length y.kinds) (entry u c) 0 0 (omega (arith, p.same));
         low = λ u c h l. omega arith;
       };
       capacities = record {
         room = capacities.0;
-        at = λ g c h l. capacities.1 (96 * g + c) (omega arith) ∙ days y.installed g c (omega (arith, p.powers)) l;
+        at = λ g c h l. capacities.1 (entry g c) (omega arith) ∙ days y.installed g c (omega (arith, p.powers)) l;
         low = λ g c h l. omega arith;
       };
       readings = record {
         room = readings.0;
-        at = λ g c h l. readings.1 (96 * g + c) (omega arith) ∙ get_or-replicate (96 * length y.installed) (96 * g + c) None None (omega (arith, p.powers));
+        at = λ g c h l. readings.1 (entry g c) (omega arith) ∙ get_or-replicate (BLOCKS * length y.installed) (entry g c) None None (omega (arith, p.powers));
         low = λ g c h l. omega arith;
       };
       powers = record {

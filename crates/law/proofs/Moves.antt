@@ -1,18 +1,21 @@
 -- What a change of the data leaves.
 use Rattle.std.proofs.Common.{◌≡◌, ℕ, ◌+◌, ◌*◌, ◌<◌, ◌≤◌, true, false, leb, ◌&&◌, List, length, get_or, set, None, Option, is_some, sym, refl, ap, ◌∙◌, subst, inl, inr, arith}
+use Rattle.book.specs.Lists.{entry}
+use Rattle.book.specs.Stations.{is_settled}
 use Rattle.law.proofs.Kept.{Whole}
 use Rattle.law.proofs.Places.{Within, one_owner}
 use Rattle.law.proofs.Same.{Unmoved, same_days, unmoved}
 use Rattle.law.proofs.Changed.{but_other, but_same}
 use Rattle.law.specs.Data.{Data, Layout, but, but_in}
 use Rattle.law.proofs.Together.{all_settled, all_there}
-use Rattle.law.specs.Figures.{count_of, first_of, is_settled, settled_with, stations_in}
+use Rattle.law.specs.Figures.{count_of, first_of, settled_with, stations_in}
 use Rattle.law.specs.Laws.{SameDays}
 use Rattle.std.specs.List.{Contains}
 use Rattle.std.proofs.lemmas.Bool.{both_ways, cases_eq, cond_both}
 use Rattle.std.proofs.lemmas.List.{get_or-set_other, get_or-set_same}
 use Rattle.units.specs.declared.station.Phase.{Phase}
 use Rattle.units.specs.declared.station.Phase.TheVariants.{Settled}
+use Rattle.units.specs.declared.limits.TheConstants.{BLOCKS}
 
 -- what holds of the new value at n and of each other holds of each
 pub each_but : {X : Type 0} (P : ℕ → X → Type 0) (n : ℕ) (v : X) (f : ℕ → X) → P n v → ((m : ℕ) → (m ≡ n → ⊥) → P m (f m)) → (m : ℕ) → P m (but n v f m)
@@ -98,7 +101,7 @@ module _ (y : Layout) (d : Data) where
   }
 
   pub whole_phase : (t : ℕ) (p : Phase) → is_settled p ≡ false → Whole y d.phase d.reading → Whole y (but t p d.phase) d.reading
-  whole_phase t p un old u g b on = each_but (λ k q. is_settled q ≡ true → Within y.counts g k → b < 96 → is_some (d.reading g b) ≡ true) t p d.phase
+  whole_phase t p un old u g b on = each_but (λ k q. is_settled q ≡ true → Within y.counts g k → b < BLOCKS → is_some (d.reading g b) ≡ true) t p d.phase
       (λ yes. absurd (both_ways (is_settled p) un yes)) (λ k ne yes w l. old k g b yes w l) u on
 
   pub whole_reading : (g : ℕ) (row : ℕ → Option ℕ) → ((b : ℕ) → is_some (d.reading g b) ≡ true → is_some (row b) ≡ true) → Whole y d.phase d.reading → Whole y d.phase (but g row d.reading)
@@ -106,25 +109,25 @@ module _ (y : Layout) (d : Data) where
       each_but (λ j r. is_some (d.reading j b) ≡ true → is_some (r b) ≡ true) g row d.reading (keeps b) (λ j ne yes. yes) k (old u k b on w l)
 
 -- a reading replaced on its page
-pub replaced : (f : ℕ → ℕ → Option ℕ) (p : List (Option ℕ)) (v : Option ℕ) (many g b : ℕ) → g < many → b < 96 → 96 * many ≤ length p
-    → ((u c : ℕ) → u < many → c < 96 → get_or p (96 * u + c) None ≡ f u c)
-    → (u c : ℕ) → u < many → c < 96 → get_or (set p (96 * g + b) v) (96 * u + c) None ≡ but g (but b v (f g)) f u c
+pub replaced : (f : ℕ → ℕ → Option ℕ) (p : List (Option ℕ)) (v : Option ℕ) (many g b : ℕ) → g < many → b < BLOCKS → BLOCKS * many ≤ length p
+    → ((u c : ℕ) → u < many → c < BLOCKS → get_or p (entry u c) None ≡ f u c)
+    → (u c : ℕ) → u < many → c < BLOCKS → get_or (set p (entry g b) v) (entry u c) None ≡ but g (but b v (f g)) f u c
 replaced f p v many g b there last room old u c h l =
-    let i = 96 * g + b in
+    let i = entry g b in
     elim (cases_eq u g) [
       | inl e ↦
           elim (cases_eq c b) [
             | inl q ↦
-                let same : 96 * u + c ≡ i = omega arith in
+                let same : entry u c ≡ i = omega arith in
                 ap (λ k. get_or (set p i v) k None) same ∙ get_or-set_same p i v None (omega arith)
                 ∙ sym (ap (λ k. but g (but b v (f g)) f k c) e ∙ ap (λ (r : ℕ → Option ℕ). r c) (but_same g (but b v (f g)) f) ∙ ap (but b v (f g)) q ∙ but_same b v (f g))
             | inr ne ↦
-                let other : 96 * u + c ≡ i → ⊥ = λ z. ne (omega arith) in
-                get_or-set_other p i (96 * u + c) v None other ∙ old u c h l ∙ ap (λ k. f k c) e
+                let other : entry u c ≡ i → ⊥ = λ z. ne (omega arith) in
+                get_or-set_other p i (entry u c) v None other ∙ old u c h l ∙ ap (λ k. f k c) e
                 ∙ sym (ap (λ k. but g (but b v (f g)) f k c) e ∙ ap (λ (r : ℕ → Option ℕ). r c) (but_same g (but b v (f g)) f) ∙ but_other b v (f g) c ne)
           ]
       | inr ne ↦
-          let other : 96 * u + c ≡ i → ⊥ = λ z. ne (omega arith) in
-          get_or-set_other p i (96 * u + c) v None other ∙ old u c h l
+          let other : entry u c ≡ i → ⊥ = λ z. ne (omega arith) in
+          get_or-set_other p i (entry u c) v None other ∙ old u c h l
           ∙ sym (ap (λ (r : ℕ → Option ℕ). r c) (but_other g (but b v (f g)) f u ne))
     ]

@@ -1,8 +1,7 @@
 -- The phases that take a call.
 use Rattle.std.proofs.Common.{◌≡◌, true, false, Some, None, Option, unwrap_or, is_some}
-use Rattle.book.specs.Stations.{moves}
+use Rattle.book.specs.Stations.{is_settled, moves}
 use Rattle.units.specs.declared.head.Head.{Head}
-use Rattle.law.specs.Figures.{is_settled}
 use Rattle.std.proofs.lemmas.Bool.{false≢true}
 use Rattle.units.specs.declared.station.Phase.{Phase}
 use Rattle.units.specs.declared.station.Phase.TheVariants.{Filing, Running, Metering, Settled}

@@ -41,8 +41,8 @@ in_all cs g t w = omega (arith, w.high, ends_all cs t w.station)
 
 -- it is found there
 pub owner_at : (ss : List Station) (cs : List ℕ) (g t : ℕ) → length ss ≡ length cs
-    → ((k : ℕ) → k < length cs → (get_or ss k nobody).members.first ≡ sum (take k cs))
-    → ((k : ℕ) → k < length cs → (get_or ss k nobody).members.count ≡ get_or cs k 0)
+    → ((k : ℕ) → k < length cs → (get_or ss k nobody).plant.members.first ≡ sum (take k cs))
+    → ((k : ℕ) → k < length cs → (get_or ss k nobody).plant.members.count ≡ get_or cs k 0)
     → Within cs g t → position_or_len (reaches g) ss ≡ t
 owner_at ss cs g t many first count w =
     let h = w.station in

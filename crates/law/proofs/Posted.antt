@@ -1,6 +1,6 @@
 -- A station that is posted has the charges and its generators the shares that the data give.
 use Rattle.std.proofs.Common.{◌≡◌, ℕ, ◌+◌, ◌<◌, ◌≤◌, true, List, length, get_or, set, pos, sym, ap, ◌∙◌, subst, ◌⊎◌, ⊎_elim, inl, inr, arith}
-use Rattle.book.specs.Stations.{settled_at}
+use Rattle.book.specs.Stations.{is_settled, on_balance, settled_at}
 use Rattle.book.specs.declared.station.Station.{Station}
 use Rattle.law.proofs.Kept.{Accounted, Charged, Placed, Powered, amounts_in, figures_are, share_is}
 use Rattle.law.proofs.Places.{Within, in_all, one_owner}
@@ -8,13 +8,14 @@ use Rattle.law.proofs.Same.{Unmoved, same_account, same_amounts, same_standing}
 use Rattle.law.proofs.Stations.{each_of}
 use Rattle.law.proofs.Together.{not_with}
 use Rattle.law.specs.Data.{Data, Layout}
-use Rattle.law.specs.Figures.{account_of, count_of, first_of, is_settled, settled_with, standing}
+use Rattle.law.specs.Figures.{account_of, count_of, first_of, settled_with, standing}
 use Rattle.posting.proofs.Sums.{sum_to_same}
 use Rattle.posting.proofs.Accounts.{changed_in, changed_out, length_changed, powers_kept}
 use Rattle.posting.specs.Days.{StationDay, account_after, no_account, posted_accounts, standing_charges}
 use Rattle.posting.specs.declared.account.Account.{Account}
 use Rattle.std.proofs.lemmas.Bool.{cases_eq, cases_lt, cond-true}
 use Rattle.std.specs.List.{Contains}
+use Rattle.units.specs.declared.limits.TheConstants.{BLOCKS}
 
 module _ (y : Layout) (d e : Data) (day : StationDay) (x : Station) (at : Placed y e day)
     (settled : is_settled (e.phase day.station) ≡ true) (others : (u : ℕ) → (Contains (settled_with y d u) day.station → ⊥) → u < length y.counts → Unmoved y d e u) where
@@ -22,10 +23,10 @@ module _ (y : Layout) (d e : Data) (day : StationDay) (x : Station) (at : Placed
   other : (u : ℕ) → (u ≡ day.station → ⊥) → u < length y.counts → Unmoved y d e u
   other u ne h = others u (not_with y d day.station u ne) h
 
-  pub charged : (ss : List Station) → day.station < length ss → Charged day.rules y d ss → Charged day.rules y e (set ss day.station (settled_at (standing_charges day) x))
+  pub charged : (ss : List Station) → day.station < length ss → Charged day.rules y d ss → Charged day.rules y e (set ss day.station (on_balance (settled_at (standing_charges day)) x))
   charged ss h old =
-      each_of (λ k z. k < length y.counts → z.charges ≡ standing day.rules y e k) ss day.station (settled_at (standing_charges day) x) h
-      (λ l. sum_to_same _ _ 96 (λ b q. ap (λ a. a.money) (figures_are y e day at b q)) ∙ sym (cond-true (is_settled (e.phase day.station)) _ (pos 0) settled))
+      each_of (λ k z. k < length y.counts → z.balance.charges ≡ standing day.rules y e k) ss day.station (on_balance (settled_at (standing_charges day)) x) h
+      (λ l. sum_to_same _ _ BLOCKS (λ b q. ap (λ a. a.money) (figures_are y e day at b q)) ∙ sym (cond-true (is_settled (e.phase day.station)) _ (pos 0) settled))
       (λ k ne l. old k l ∙ same_standing day.rules y d e k (other k ne l))
 
   -- the generators of another station lie before or behind
@@ -58,8 +59,8 @@ module _ (y : Layout) (d e : Data) (day : StationDay) (x : Station) (at : Placed
           ap (λ j. amounts_in (get_or (posted_accounts day accounts) j no_account)) place
           ∙ ap amounts_in (changed_in day.members.first day.members.count (account_after day) accounts k no_account few low)
           ∙ same_amounts
-          (sum_to_same _ _ 96 (λ b q. ap (λ a. a.money) (share_is y e day at k b q)) ∙ sym (cond-true (is_settled (e.phase day.station)) _ (pos 0) settled))
-          (sum_to_same _ _ 96 (λ b q. ap (λ a. a.energy) (share_is y e day at k b q)) ∙ sym (cond-true (is_settled (e.phase day.station)) _ (pos 0) settled))
+          (sum_to_same _ _ BLOCKS (λ b q. ap (λ a. a.money) (share_is y e day at k b q)) ∙ sym (cond-true (is_settled (e.phase day.station)) _ (pos 0) settled))
+          (sum_to_same _ _ BLOCKS (λ b q. ap (λ a. a.energy) (share_is y e day at k b q)) ∙ sym (cond-true (is_settled (e.phase day.station)) _ (pos 0) settled))
 
 -- the installed powers stay
 pub powered : (y : Layout) (day : StationDay) (accounts : List Account) → Powered y accounts → Powered y (posted_accounts day accounts)

@@ -1,8 +1,9 @@
 -- The money of a station depends on the days of the stations that it is settled with.
 use Rattle.std.proofs.Common.{◌≡◌, ℕ, zero, suc, ◌+◌, ◌-◌, ◌<◌, ◌≤◌, Bool, true, false, cond, List, ◌∷◌, get_or, ℤ, pos, refl, ap, ◌∙◌, subst, arith}
+use Rattle.book.specs.Stations.{is_settled}
 use Rattle.law.proofs.Together.{itself}
 use Rattle.law.specs.Data.{Data, Layout}
-use Rattle.law.specs.Figures.{account_of, count_of, figures_of, first_of, is_settled, load_in, loads_in, loads_of, settled_with, share_of, standing}
+use Rattle.law.specs.Figures.{account_of, count_of, figures_of, first_of, load_in, loads_in, loads_of, settled_with, share_of, standing}
 use Rattle.law.specs.Laws.{SameDay, SameDays}
 use Rattle.posting.proofs.Sums.{sum_to_same}
 use Rattle.share.specs.Rules.{Rules}
@@ -13,6 +14,7 @@ use Rattle.share.specs.declared.load.Load.{Load}
 use Rattle.std.proofs.lemmas.List.Elements.{All-contains, Contains-get_or}
 use Rattle.std.specs.List.{Contains}
 use Rattle.tariff.specs.Charges.{deviation_of}
+use Rattle.units.specs.declared.limits.TheConstants.{BLOCKS}
 
 pub same_amounts : {a b c d : ℤ} → a ≡ b → c ≡ d → ◌≡◌ {A = Amounts} (record { money = a; energy = c }) (record { money = b; energy = d })
 same_amounts p q = cc
@@ -44,7 +46,7 @@ module _ (y : Layout) (d e : Data) (b : ℕ) where
       ∙ ap (λ xs. load_in y e g b ∷ xs) (loads_same (g + 1) n (λ h p q. f h (omega arith) (omega arith)))
 
 module _ (y : Layout) (d e : Data) (t : ℕ) (same : SameDay y d e t) where
-  same_loads : (b : ℕ) → b < 96 → loads_of y d t b ≡ loads_of y e t b
+  same_loads : (b : ℕ) → b < BLOCKS → loads_of y d t b ≡ loads_of y e t b
   same_loads b h = loads_same y d e b (first_of y t) (count_of y t) (λ g p q.
       let k = g - first_of y t in
       let few : k < count_of y t = omega (arith, p, q) in
@@ -55,10 +57,10 @@ module _ (y : Layout) (d e : Data) (t : ℕ) (same : SameDay y d e t) where
       same_load : (g b : ℕ) → d.reading g b ≡ e.reading g b → d.capacity g b ≡ e.capacity g b → load_in y d g b ≡ load_in y e g b
       same_load g b p q = rw (p, q)
 
-  same_figures : (rules : Rules) (b : ℕ) → b < 96 → figures_of rules y d t b ≡ figures_of rules y e t b
+  same_figures : (rules : Rules) (b : ℕ) → b < BLOCKS → figures_of rules y d t b ≡ figures_of rules y e t b
   same_figures rules b h = same_by rules t b _ _ _ _ (same.schedule b h) (same_loads b h)
 
-  same_share : (rules : Rules) (k b : ℕ) → b < 96 → share_of rules y d t k b ≡ share_of rules y e t k b
+  same_share : (rules : Rules) (k b : ℕ) → b < BLOCKS → share_of rules y d t k b ≡ share_of rules y e t k b
   same_share rules k b h = same_split rules k _ _ _ _ (same_figures rules b h) (same_loads b h)
 
 -- the days of the stations that it is settled with, one by one
@@ -88,9 +90,9 @@ module _ (rules : Rules) (y : Layout) (d e : Data) (t : ℕ) (u : Unmoved y d e 
   on_its_day on = its_day y d e t (u.days on)
 
   pub same_standing : standing rules y d t ≡ standing rules y e t
-  same_standing = same_if _ _ _ _ u.settled (λ on. sum_to_same _ _ 96 (λ b h. ap (λ a. a.money) (same_figures y d e t (on_its_day on) rules b h)))
+  same_standing = same_if _ _ _ _ u.settled (λ on. sum_to_same _ _ BLOCKS (λ b h. ap (λ a. a.money) (same_figures y d e t (on_its_day on) rules b h)))
 
   pub same_account : (k : ℕ) → account_of rules y d t k ≡ account_of rules y e t k
   same_account k = same_amounts
-      (same_if _ _ _ _ u.settled (λ on. sum_to_same _ _ 96 (λ b h. ap (λ a. a.money) (same_share y d e t (on_its_day on) rules k b h))))
-      (same_if _ _ _ _ u.settled (λ on. sum_to_same _ _ 96 (λ b h. ap (λ a. a.energy) (same_share y d e t (on_its_day on) rules k b h))))
+      (same_if _ _ _ _ u.settled (λ on. sum_to_same _ _ BLOCKS (λ b h. ap (λ a. a.money) (same_share y d e t (on_its_day on) rules k b h))))
+      (same_if _ _ _ _ u.settled (λ on. sum_to_same _ _ BLOCKS (λ b h. ap (λ a. a.energy) (same_share y d e t (on_its_day on) rules k b h))))

@@ -8,17 +8,17 @@ use Rattle.law.specs.Data.{but}
 use Rattle.law.specs.Figures.{added}
 use Rattle.std.proofs.lemmas.Bool.{cases_eq}
 use Rattle.std.proofs.lemmas.List.{get_or-set_other, get_or-set_same, get_or_default}
-use Rattle.book.proofs.Places.{generators_set}
+use Rattle.book.proofs.Places.{plants_set, same_generators}
 use Rattle.units.specs.declared.station.Phase.{Phase}
 
 -- as many as the opening lists, each with its generators, in its phase, and with what it drew less what it paid
 pub record Stand (cs : List ℕ) (phase : ℕ → Phase) (drawn paid : ℕ → ℕ) (ss : List Station) : Type 0 where
   pub many : length ss ≡ length cs
   pub all : generators_of ss ≡ sum cs
-  pub first : (t : ℕ) → t < length cs → (get_or ss t nobody).members.first ≡ sum (take t cs)
-  pub count : (t : ℕ) → t < length cs → (get_or ss t nobody).members.count ≡ get_or cs t 0
-  pub phase_is : (t : ℕ) → t < length cs → (get_or ss t nobody).phase ≡ phase t
-  pub net : (t : ℕ) → t < length cs → (get_or ss t nobody).net ≡ pos (drawn t) -ℤ pos (paid t)
+  pub first : (t : ℕ) → t < length cs → (get_or ss t nobody).plant.members.first ≡ sum (take t cs)
+  pub count : (t : ℕ) → t < length cs → (get_or ss t nobody).plant.members.count ≡ get_or cs t 0
+  pub phase_is : (t : ℕ) → t < length cs → (get_or ss t nobody).stage.phase ≡ phase t
+  pub net : (t : ℕ) → t < length cs → (get_or ss t nobody).balance.net ≡ pos (drawn t) -ℤ pos (paid t)
 
 -- what holds of the new station t and of each other holds of each
 pub each_of : (P : ℕ → Station → Type 0) (ss : List Station) (t : ℕ) (x : Station) → t < length ss
@@ -30,18 +30,18 @@ each_of P ss t x h new old u = elim (cases_eq u t) [
 
 -- station t in its new phase, with its new sums
 pub put : (cs : List ℕ) (phase : ℕ → Phase) (drawn paid : ℕ → ℕ) (ss : List Station) (t : ℕ) (x : Station) (p : Phase) (a b : ℕ)
-    → Stand cs phase drawn paid ss → t < length cs → x.members ≡ (get_or ss t nobody).members → x.phase ≡ p → x.net ≡ pos a -ℤ pos b
+    → Stand cs phase drawn paid ss → t < length cs → x.plant ≡ (get_or ss t nobody).plant → x.stage.phase ≡ p → x.balance.net ≡ pos a -ℤ pos b
     → Stand cs (but t p phase) (but t a drawn) (but t b paid) (set ss t x)
-put cs phase drawn paid ss t x p a b s h members is net =
+put cs phase drawn paid ss t x p a b s h plant is net =
     let there : t < length ss = omega (arith, s.many) in
-    let same : x.members ≡ (get_or ss t x).members = members ∙ ap (λ (y : Station). y.members) (get_or_default ss t nobody x there) in
+    let same : x.plant ≡ (get_or ss t x).plant = plant ∙ ap (λ (y : Station). y.plant) (get_or_default ss t nobody x there) in
     record {
       many = length-set ss t x ∙ s.many;
-      all = generators_set ss t x there same ∙ s.all;
-      first = each_of (λ u y. u < length cs → y.members.first ≡ sum (take u cs)) ss t x there (λ l. ap (λ m. m.first) members ∙ s.first t l) (λ u ne l. s.first u l);
-      count = each_of (λ u y. u < length cs → y.members.count ≡ get_or cs u 0) ss t x there (λ l. ap (λ m. m.count) members ∙ s.count t l) (λ u ne l. s.count u l);
-      phase_is = each_of (λ u y. u < length cs → y.phase ≡ but t p phase u) ss t x there (λ l. is ∙ sym (but_same t p phase)) (λ u ne l. s.phase_is u l ∙ sym (but_other t p phase u ne));
-      net = each_of (λ u y. u < length cs → y.net ≡ pos (but t a drawn u) -ℤ pos (but t b paid u)) ss t x there
+      all = same_generators (set ss t x) ss (plants_set ss t x same) ∙ s.all;
+      first = each_of (λ u y. u < length cs → y.plant.members.first ≡ sum (take u cs)) ss t x there (λ l. ap (λ p. p.members.first) plant ∙ s.first t l) (λ u ne l. s.first u l);
+      count = each_of (λ u y. u < length cs → y.plant.members.count ≡ get_or cs u 0) ss t x there (λ l. ap (λ p. p.members.count) plant ∙ s.count t l) (λ u ne l. s.count u l);
+      phase_is = each_of (λ u y. u < length cs → y.stage.phase ≡ but t p phase u) ss t x there (λ l. is ∙ sym (but_same t p phase)) (λ u ne l. s.phase_is u l ∙ sym (but_other t p phase u ne));
+      net = each_of (λ u y. u < length cs → y.balance.net ≡ pos (but t a drawn u) -ℤ pos (but t b paid u)) ss t x there
           (λ l. net ∙ sym (less (but_same t a drawn) (but_same t b paid)))
           (λ u ne l. s.net u l ∙ sym (less (but_other t a drawn u ne) (but_other t b paid u ne)));
     }
@@ -83,18 +83,18 @@ added_more f t x (suc n) h = elim (cases_eq n t) [
 
 -- station t in its new phase, with its sums as they were
 pub put_phase : (cs : List ℕ) (phase : ℕ → Phase) (drawn paid : ℕ → ℕ) (ss : List Station) (t : ℕ) (x : Station) (p : Phase)
-    → Stand cs phase drawn paid ss → t < length cs → x.members ≡ (get_or ss t nobody).members → x.phase ≡ p → x.net ≡ (get_or ss t nobody).net
+    → Stand cs phase drawn paid ss → t < length cs → x.plant ≡ (get_or ss t nobody).plant → x.stage.phase ≡ p → x.balance.net ≡ (get_or ss t nobody).balance.net
     → Stand cs (but t p phase) drawn paid (set ss t x)
-put_phase cs phase drawn paid ss t x p s h members is net =
+put_phase cs phase drawn paid ss t x p s h plant is net =
     agreeing cs (but t p phase) (but t p phase) (but t (drawn t) drawn) drawn (but t (paid t) paid) paid (set ss t x)
     (λ u. refl) (but_own t (drawn t) drawn refl) (but_own t (paid t) paid refl)
-    (put cs phase drawn paid ss t x p (drawn t) (paid t) s h members is (net ∙ s.net t h))
+    (put cs phase drawn paid ss t x p (drawn t) (paid t) s h plant is (net ∙ s.net t h))
 
 -- the same, in its phase as it was
 pub put_same : (cs : List ℕ) (phase : ℕ → Phase) (drawn paid : ℕ → ℕ) (ss : List Station) (t : ℕ) (x : Station)
-    → Stand cs phase drawn paid ss → t < length cs → x.members ≡ (get_or ss t nobody).members → x.phase ≡ (get_or ss t nobody).phase → x.net ≡ (get_or ss t nobody).net
+    → Stand cs phase drawn paid ss → t < length cs → x.plant ≡ (get_or ss t nobody).plant → x.stage.phase ≡ (get_or ss t nobody).stage.phase → x.balance.net ≡ (get_or ss t nobody).balance.net
     → Stand cs phase drawn paid (set ss t x)
-put_same cs phase drawn paid ss t x s h members is net =
+put_same cs phase drawn paid ss t x s h plant is net =
     agreeing cs (but t (phase t) phase) phase drawn drawn paid paid (set ss t x)
     (but_own t (phase t) phase refl) (λ u. refl) (λ u. refl)
-    (put_phase cs phase drawn paid ss t x (phase t) s h members (is ∙ s.phase_is t h) net)
+    (put_phase cs phase drawn paid ss t x (phase t) s h plant (is ∙ s.phase_is t h) net)

@@ -1,7 +1,8 @@
 -- What the proofs need to know of the stations that a station is settled with.
 use Rattle.std.proofs.Common.{◌≡◌, ℕ, zero, suc, ◌<◌, true, sym, refl, ap, ◌∙◌, subst, arith}
+use Rattle.book.specs.Stations.{is_settled}
 use Rattle.law.specs.Data.{Data, Layout}
-use Rattle.law.specs.Figures.{is_settled, settled_with, stations_in}
+use Rattle.law.specs.Figures.{settled_with, stations_in}
 use Rattle.std.specs.List.{Contains}
 
 module _ (y : Layout) (d : Data) where

@@ -1,5 +1,6 @@
 -- What a tariff and a key make of the data: charges, shares, standing charges and accounts.
-use Rattle.std.specs.Prelude.{ℕ, zero, suc, ◌+◌, Bool, true, false, List, [], ◌∷◌, length, take, ℤ, pos, sum, if◌then◌else◌, slice_index, slice_index_or}
+use Rattle.std.specs.Prelude.{ℕ, zero, suc, ◌+◌, List, [], ◌∷◌, length, take, ℤ, pos, sum, if◌then◌else◌, slice_index, slice_index_or}
+use Rattle.book.specs.Stations.{is_settled}
 use Rattle.law.specs.Data.{Data, Layout}
 use Rattle.posting.specs.Days.{sum_to}
 use Rattle.share.specs.Rules.{Rules}
@@ -11,7 +12,7 @@ use Rattle.std.specs.Option.{unwrap_or}
 use Rattle.tariff.specs.Charges.{deviation_of}
 use Rattle.tariff.specs.declared.query.Query.{Query}
 use Rattle.units.specs.declared.station.Phase.{Phase}
-use Rattle.units.specs.declared.station.Phase.TheVariants.{Filing, Running, Metering, Settled}
+use Rattle.units.specs.declared.limits.TheConstants.{BLOCKS}
 
 -- how many stations there are
 abbrev pub stations_in : Layout → ℕ
@@ -91,23 +92,17 @@ share_of rules y d t k b = record {
   energy = split_of rules y d t k b (figures_of rules y d t b).energy;
 }
 
-abbrev pub is_settled : Phase → Bool
-is_settled Settled = true
-is_settled Filing = false
-is_settled Running = false
-is_settled Metering = false
-
 -- an amount that stands once a station is settled, and before is nothing
 abbrev pub if_settled : Phase → ℤ → ℤ
 if_settled p amount = if is_settled p then amount else pos 0
 
--- the standing charges of station t: the charges of its 96 blocks added
+-- the standing charges of station t: the charges of its blocks added
 abbrev pub standing : Rules → Layout → Data → ℕ → ℤ
-standing rules y d t = if_settled (d.phase t) (sum_to (λ b. (figures_of rules y d t b).money) 96)
+standing rules y d t = if_settled (d.phase t) (sum_to (λ b. (figures_of rules y d t b).money) BLOCKS)
 
--- the account of its k-th generator: the shares of the 96 blocks added
+-- the account of its k-th generator: the shares of the blocks added
 abbrev pub account_of : Rules → Layout → Data → ℕ → ℕ → Amounts
 account_of rules y d t k = record {
-  money = if_settled (d.phase t) (sum_to (λ b. (share_of rules y d t k b).money) 96);
-  energy = if_settled (d.phase t) (sum_to (λ b. (share_of rules y d t k b).energy) 96);
+  money = if_settled (d.phase t) (sum_to (λ b. (share_of rules y d t k b).money) BLOCKS);
+  energy = if_settled (d.phase t) (sum_to (λ b. (share_of rules y d t k b).energy) BLOCKS);
 }

@@ -17,6 +17,7 @@ use Rattle.tariff.specs.declared.tariff.Tariff as tariff
 use Rattle.units.specs.declared.call.Call.{Call}
 use Rattle.units.specs.declared.call.Opening.{Opening}
 use Rattle.units.specs.declared.station.Phase.TheVariants.{Settled}
+use Rattle.units.specs.declared.limits.TheConstants.{BLOCKS}
 
 -- These calls, with these answers, led to this book and these pages from a book just opened under the
 -- same tariff and key, on pages of any content and length.
@@ -39,10 +40,10 @@ pub record StationLaw (y : Layout) (d : Data) (s : State) (t : ℕ) : Type 0 whe
   pub there : no_station t s ≡ None
   pub stated : presence t s ≡ None
   -- its phase and its standing charges are those of the data
-  pub phase : (progress_of (station_at s t)).phase ≡ d.phase t
-  pub charges : (station_at s t).charges ≡ standing s.rules y d t
+  pub phase : (progress_of (station_at s t).stage).phase ≡ d.phase t
+  pub charges : (station_at s t).balance.charges ≡ standing s.rules y d t
   -- its due is its standing charges and what it drew, less what it paid
-  pub due : due_of (station_at s t)
+  pub due : due_of (station_at s t).balance
       ≡ (standing s.rules y d t +ℤ pos (d.drawn t)) -ℤ pos (d.paid t)
 
 -- the share of its k-th generator in block b
@@ -84,11 +85,11 @@ pub record AccountLaw (y : Layout) (d : Data) (s : State) (t k : ℕ) : Type 0 w
   -- it is answered, and is that of the data
   pub answered : generator_presence (first_of y t + k) s ≡ None
   pub account : account_told y s t k ≡ account_of s.rules y d t k
-  -- once the station is settled, it is the 96 shares added
+  -- once the station is settled, it is the shares of its blocks added
   pub money : d.phase t ≡ Settled
-      → (account_told y s t k).money ≡ sum_to (λ b. (share_told y s t k b).money) 96
+      → (account_told y s t k).money ≡ sum_to (λ b. (share_told y s t k b).money) BLOCKS
   pub energy : d.phase t ≡ Settled
-      → (account_told y s t k).energy ≡ sum_to (λ b. (share_told y s t k b).energy) 96
+      → (account_told y s t k).energy ≡ sum_to (λ b. (share_told y s t k b).energy) BLOCKS
 
 pub record Law (y : Layout) (d : Data) (s : State) : Type 0 where
   -- there are as many stations as the opening lists
@@ -99,32 +100,32 @@ pub record Law (y : Layout) (d : Data) (s : State) : Type 0 where
   pub stations : (t : ℕ) → t < stations_in y → StationLaw y d s t
   -- (b) The charge of each block of a settled station follows from the data, and is split among its
   -- generators with nothing left over; and the account of each generator is its shares added.
-  pub blocks : (t b : ℕ) → t < stations_in y → b < 96 → d.phase t ≡ Settled → BlockLaw y d s t b
+  pub blocks : (t b : ℕ) → t < stations_in y → b < BLOCKS → d.phase t ≡ Settled → BlockLaw y d s t b
   pub accounts : (t k : ℕ) → t < stations_in y → k < count_of y t → AccountLaw y d s t k
 
 -- the same data of all stations and generators that there are
 pub record SameData (y : Layout) (d e : Data) : Type 0 where
   pub phases : (t : ℕ) → t < stations_in y → d.phase t ≡ e.phase t
-  pub schedules : (t b : ℕ) → t < stations_in y → b < 96 → d.schedule t b ≡ e.schedule t b
-  pub capacities : (g b : ℕ) → g < sum y.counts → b < 96 → d.capacity g b ≡ e.capacity g b
-  pub readings : (g b : ℕ) → g < sum y.counts → b < 96 → d.reading g b ≡ e.reading g b
+  pub schedules : (t b : ℕ) → t < stations_in y → b < BLOCKS → d.schedule t b ≡ e.schedule t b
+  pub capacities : (g b : ℕ) → g < sum y.counts → b < BLOCKS → d.capacity g b ≡ e.capacity g b
+  pub readings : (g b : ℕ) → g < sum y.counts → b < BLOCKS → d.reading g b ≡ e.reading g b
   pub paid : (t : ℕ) → t < stations_in y → d.paid t ≡ e.paid t
   pub drawn : (t : ℕ) → t < stations_in y → d.drawn t ≡ e.drawn t
 
 -- the same cash, the same due of each station, and the same account of each generator
 pub record SameMoney (y : Layout) (s e : State) : Type 0 where
   pub cash : s.cash ≡ e.cash
-  pub dues : (t : ℕ) → t < stations_in y → due_of (station_at s t) ≡ due_of (station_at e t)
+  pub dues : (t : ℕ) → t < stations_in y → due_of (station_at s t).balance ≡ due_of (station_at e t).balance
   pub accounts : (g : ℕ) → g < sum y.counts → account_answer g s ≡ account_answer g e
 
 -- The same day of station t: its phase, its schedule, and the capacities and readings of its
 -- generators.
 pub record SameDay (y : Layout) (d e : Data) (t : ℕ) : Type 0 where
   pub phase : d.phase t ≡ e.phase t
-  pub schedule : (b : ℕ) → b < 96 → d.schedule t b ≡ e.schedule t b
-  pub capacities : (k b : ℕ) → k < count_of y t → b < 96
+  pub schedule : (b : ℕ) → b < BLOCKS → d.schedule t b ≡ e.schedule t b
+  pub capacities : (k b : ℕ) → k < count_of y t → b < BLOCKS
       → d.capacity (first_of y t + k) b ≡ e.capacity (first_of y t + k) b
-  pub readings : (k b : ℕ) → k < count_of y t → b < 96
+  pub readings : (k b : ℕ) → k < count_of y t → b < BLOCKS
       → d.reading (first_of y t + k) b ≡ e.reading (first_of y t + k) b
 
 -- station t is settled with the same stations, and the day of each of them is the same
@@ -134,7 +135,7 @@ pub record SameDays (y : Layout) (d e : Data) (t : ℕ) : Type 0 where
 
 -- the same standing charges of station t, and the same account of each of its generators
 pub record SameStation (y : Layout) (t : ℕ) (s e : State) : Type 0 where
-  pub charges : (station_at s t).charges ≡ (station_at e t).charges
+  pub charges : (station_at s t).balance.charges ≡ (station_at e t).balance.charges
   pub accounts : (k : ℕ) → k < count_of y t → account_told y s t k ≡ account_told y e t k
 
 pub record Lawful {T K : Type 0} {prices : tariff.Ghosts T} {keys : key.Ghosts K}

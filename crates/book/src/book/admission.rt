@@ -1,6 +1,7 @@
 //! What every call tests first: the pages, the station or generator, and the station's phase.
 ghost use Rattle.std.specs.Prelude.{◌≡◌, ◌≤◌, position};
 ghost use Rattle.units.specs.Refusals.{Checks};
+ghost use Rattle.units.specs.declared.limits.TheConstants.{ALL_GENERATORS, STATIONS};
 ghost use Rattle.book.specs.States.{admission, Admitted, Fit, Found, generator_admission, generator_presence, lengths_in, no_station_of, Owned, Owner, presence, reaches, Room, short_for, short_page, short_pages, state, StationIs};
 
 use super::Book;
@@ -27,8 +28,8 @@ fn long_enough(page: Page, length: usize, needed: usize) -> Result<(), Fault>
 
 /// The pages have room for so many stations and generators.
 pub fn fitting_pages(pages: &Pages, stations: usize, generators: usize) -> Result<(), Fault>
-    requires few { stations ≤ 16 }
-    requires most { generators ≤ 512 }
+    requires few { stations ≤ STATIONS }
+    requires most { generators ≤ ALL_GENERATORS }
     ensures { Checks (short_for stations generators (lengths_in pages.now)) (λ _. Room stations generators (lengths_in pages.now)) result }
 {
     long_enough(Page::Schedules, pages.schedules.len(), BLOCKS * stations)?;
@@ -81,7 +82,7 @@ impl<T: Tariff, K: Key> Book<T, K> {
     {
         self.stations
             .iter()
-            .position(|station| generator < station.members.end() as u64)
+            .position(|station| generator < station.plant.members.end() as u64)
     }
 
     /// The pages fit, and there is such a generator: its station's number.

@@ -9,7 +9,7 @@ use share::key::Key;
 use tariff::tariff::Tariff;
 use units::fault::Fault;
 use units::head::Head;
-use units::limits::{BLOCKS, STATION_KW};
+use units::limits::{BLOCKS, REVISION_LEAD, STATION_KW};
 
 impl<T: Tariff, K: Key> Book<T, K> {
     /// Station `t` files a schedule for the blocks `from` to `to`.
@@ -25,7 +25,7 @@ impl<T: Tariff, K: Key> Book<T, K> {
     {
         let mut station = self.admit(pages, t, Head::File)?;
         let kw = in_blocks(from, to, STATION_KW, kw)?;
-        station.file(from as u8, to as u8);
+        station.stage.file(from as u8, to as u8);
         self.put(t as usize, station, self.cash);
         pages.schedules[entries(t, from, to)].fill(kw);
         Ok(())
@@ -36,7 +36,7 @@ impl<T: Tariff, K: Key> Book<T, K> {
         ensures { Makes (issuing t) self.old pages.old self.new pages.new result }
     {
         let station = self.admit(pages, t, Head::Issue)?;
-        let block = station.filed.first_absent();
+        let block = station.stage.filed.first_absent();
         if block < BLOCKS as u32 {
             return Err(Fault::Unfiled {
                 station: t,
@@ -47,7 +47,7 @@ impl<T: Tariff, K: Key> Book<T, K> {
         Ok(())
     }
 
-    /// Revision `number` of station `t`, with notice in block `notice`: its schedule from block `notice + 3` on.
+    /// Revision `number` of station `t`, with notice in block `notice`: its schedule from the third block after it on.
     pub fn revise(
         &mut self,
         pages: &mut Pages,
@@ -60,9 +60,10 @@ impl<T: Tariff, K: Key> Book<T, K> {
     {
         let mut station = self.admit(pages, t, Head::Revise)?;
         let (slot, schedule) = station.revision(number, notice, values)?;
-        station.revise(slot);
+        station.stage.revise(slot);
         self.put(t as usize, station, self.cash);
-        pages.schedules[entries(t, notice + 3, 95)].copy_from_slice(&schedule);
+        let revised = entries(t, notice + REVISION_LEAD, BLOCKS as u64 - 1);
+        pages.schedules[revised].copy_from_slice(&schedule);
         Ok(())
     }
 

@@ -7,9 +7,7 @@ use posting::pages::Pages;
 use share::key::Key;
 use tariff::tariff::Tariff;
 use units::fault::Fault;
-
-/// The most cash that the pool holds, in paise.
-const CASH_LIMIT: u64 = 1_000_000_000_000_000;
+use units::limits::MOST_CASH;
 
 impl<T: Tariff, K: Key> Book<T, K> {
     /// Station `t` pays into the pool.
@@ -19,13 +17,13 @@ impl<T: Tariff, K: Key> Book<T, K> {
         let mut station = self.find_station(pages, t)?;
         sound_amount(t, amount)?;
         let cash = self.cash + amount;
-        if cash > CASH_LIMIT {
+        if cash > MOST_CASH {
             return Err(Fault::FullCash {
                 station: t,
                 cash: self.cash,
             });
         }
-        station.pay(amount);
+        station.balance.pay(amount);
         self.put(t as usize, station, cash);
         Ok(())
     }
@@ -36,7 +34,7 @@ impl<T: Tariff, K: Key> Book<T, K> {
     {
         let mut station = self.find_station(pages, t)?;
         sound_amount(t, amount)?;
-        let available = station.available();
+        let available = station.balance.available();
         if amount > available {
             return Err(Fault::DrawAboveDue {
                 station: t,
@@ -49,7 +47,7 @@ impl<T: Tariff, K: Key> Book<T, K> {
                 cash: self.cash,
             });
         }
-        station.draw(amount);
+        station.balance.draw(amount);
         self.put(t as usize, station, self.cash - amount);
         Ok(())
     }

@@ -1,8 +1,9 @@
 //! Calls that post a day's charges and shares.
 ghost use Rattle.book.specs.Calls.{correcting, Makes, posted, settling};
 ghost use Rattle.book.specs.Sound.{Changes};
+ghost use Rattle.book.specs.Stations.{is_settled};
 ghost use Rattle.book.specs.States.{state};
-ghost use Rattle.std.specs.Prelude.{◌≡◌};
+ghost use Rattle.std.specs.Prelude.{◌≡◌, true};
 
 use super::Book;
 use crate::checks::{complete, in_blocks};
@@ -17,15 +18,16 @@ use units::head::Head;
 use units::limits::{BLOCKS, GENERATOR_KW};
 
 impl<T: Tariff, K: Key> Book<T, K> {
-    /// Station `t` becomes `station` with the charges that the pages give, and its generators get their shares.
+    /// Station `t` becomes `station`, a settled one, with the charges that the pages give, and its generators get their shares.
     fn post(&mut self, pages: &mut Pages, t: usize, mut station: Station)
-        requires { Changes self.old.stations.items t self.old.cash station self.old.cash }
+        requires changes { Changes self.old.stations.items t self.old.cash station self.old.cash }
+        requires settled { is_settled station.stage.phase ≡ true }
         ensures after { state self.new pages.new ≡ posted t station (state self.old pages.old) }
         ensures tariff { self.new.tariff ≡ self.old.tariff }
         ensures key { self.new.key ≡ self.old.key }
     {
-        let charges = post(&self.tariff, &self.key, t as u8, station.members, pages);
-        station.settle(charges);
+        let charges = post(&self.tariff, &self.key, t as u8, station.plant.members, pages);
+        station.balance.settle(charges);
         self.put(t, station, self.cash);
     }
 
@@ -34,7 +36,7 @@ impl<T: Tariff, K: Key> Book<T, K> {
         ensures { Makes (settling t) self.old pages.old self.new pages.new result }
     {
         let station = self.admit(pages, t, Head::Settle)?;
-        complete(&pages.readings, station.members, None)?;
+        complete(&pages.readings, station.plant.members, None)?;
         self.post(pages, t as usize, station);
         Ok(())
     }
@@ -55,7 +57,7 @@ impl<T: Tariff, K: Key> Book<T, K> {
             generator: generator as usize,
             block: block as usize,
         };
-        complete(&pages.readings, station.members, Some(place))?;
+        complete(&pages.readings, station.plant.members, Some(place))?;
         pages.readings[BLOCKS * place.generator + place.block] = Some(kw);
         self.post(pages, t, station);
         Ok(())

@@ -6,6 +6,7 @@ ghost use Rattle.book.specs.Sound.{slots_of};
 ghost use Rattle.book.specs.States.{day_at, generator_presence, no_station_of, nobody, presence, state};
 ghost use Rattle.book.specs.Stations.{due_of};
 ghost use Rattle.posting.specs.Days.{the_day};
+ghost use Rattle.units.specs.declared.limits.TheConstants.{BLOCKS};
 
 use super::Book;
 use crate::answers::{Progress, Statement};
@@ -22,18 +23,18 @@ use units::fault::Fault;
 impl<T: Tariff, K: Key> Book<T, K> {
     /// How far the day of station `t` has come.
     pub fn progress(&self, t: u64) -> Result<Progress, Fault>
-        ensures { Checks (no_station_of self.now.stations.items t) (λ p. (p ≡ progress_of (slice_index_or self.now.stations.items t nobody)) × (p.filed ≤ 96) × (p.revisions ≤ slots_of (slice_index_or self.now.stations.items t nobody).kind)) result }
+        ensures { Checks (no_station_of self.now.stations.items t) (λ p. (p ≡ progress_of (slice_index_or self.now.stations.items t nobody).stage) × (p.filed ≤ BLOCKS) × (p.revisions ≤ slots_of (slice_index_or self.now.stations.items t nobody).plant.kind)) result }
     {
         let station = self.station(t)?;
-        Ok(station.progress())
+        Ok(station.stage.progress())
     }
 
     /// What station `t` owes the pool, or the pool it where that is below zero.
     pub fn due(&self, t: u64) -> Result<i64, Fault>
-        ensures { Checks (no_station_of self.now.stations.items t) (λ z. z ≡ due_of (slice_index_or self.now.stations.items t nobody)) result }
+        ensures { Checks (no_station_of self.now.stations.items t) (λ z. z ≡ due_of (slice_index_or self.now.stations.items t nobody).balance) result }
     {
         let station = self.station(t)?;
-        Ok(station.due())
+        Ok(station.balance.due())
     }
 
     /// What the pool holds.
@@ -61,8 +62,8 @@ impl<T: Tariff, K: Key> Book<T, K> {
         ensures { Checks (charge_refusal t block (state self.now pages.now)) (λ a. a ≡ charge_answer t block (state self.now pages.now)) result }
     {
         let station = self.admit(pages, t, ASK)?;
-        block_read(&pages.readings, station.members, block)?;
-        let day = self.day_of(pages, t as u8, station.members);
+        block_read(&pages.readings, station.plant.members, block)?;
+        let day = self.day_of(pages, t as u8, station.plant.members);
         Ok(day.figures(block as u8))
     }
 
@@ -71,10 +72,10 @@ impl<T: Tariff, K: Key> Book<T, K> {
         ensures { Checks (share_refusal generator block (state self.now pages.now)) (λ a. a ≡ share_answer generator block (state self.now pages.now)) result }
     {
         let (t, station) = self.admit_generator(pages, generator, ASK)?;
-        block_read(&pages.readings, station.members, block)?;
-        let day = self.day_of(pages, t as u8, station.members);
+        block_read(&pages.readings, station.plant.members, block)?;
+        let day = self.day_of(pages, t as u8, station.plant.members);
         let shares = day.shares(block as u8);
-        let k = generator as usize - station.members.first();
+        let k = generator as usize - station.plant.members.first();
         Ok(shares.each[k])
     }
 
@@ -99,11 +100,11 @@ impl<T: Tariff, K: Key> Book<T, K> {
         Ok(Statement {
             station: t,
             code: self.tariff.code(),
-            charges: station.charges,
-            due: station.due(),
+            charges: station.balance.charges,
+            due: station.balance.due(),
             cash: self.cash,
-            first: station.members.first(),
-            accounts: &accounts[station.members.numbers()],
+            first: station.plant.members.first(),
+            accounts: &accounts[station.plant.members.numbers()],
         })
     }
 }

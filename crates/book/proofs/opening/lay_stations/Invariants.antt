@@ -4,6 +4,7 @@ use Rattle.book.proofs.opening.lay_stations.Given as goal
 use Rattle.book.specs.Opening.{bad_stations, opened_stations, view_of}
 use Rattle.std.specs.Iterator.Adapters.{zip_first, zip_second}
 use Rattle.std.specs.Slice.Iter.{iter_rest}
+use Rattle.units.specs.declared.limits.TheConstants.{ALL_GENERATORS, GENERATORS, STATIONS}
 
 abbrev pub invariant-loop-kind : goal.invariant-loop-kind
 invariant-loop-kind l =
@@ -13,6 +14,6 @@ invariant-loop-kind l =
       laid : map view_of l.stations.items ++ opened_stations l.first kinds counts ≡ opened_stations 0 l.kinds l.counts;
       sound : bad_stations kinds counts ≡ None;
       same : length counts ≡ length kinds;
-      few : l.first + 32 * length kinds ≤ 512;
-      room : length l.stations.items + length kinds ≤ 16;
+      few : l.first + GENERATORS * length kinds ≤ ALL_GENERATORS;
+      room : length l.stations.items + length kinds ≤ STATIONS;
     }

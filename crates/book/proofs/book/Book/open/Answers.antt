@@ -1,8 +1,8 @@
 use Rattle.std.proofs.Common.{◌≡◌, length, sym, refl, ◌∙◌, arith}
 use Rattle.book.proofs.OpeningPages.{begun_for}
-use Rattle.book.proofs.OpeningStations.{covered_opened, each_opened, in_day_opened, in_slots_opened, laid_opened, light_opened, sums_opened}
+use Rattle.book.proofs.OpeningStations.{each_opened, laid_opened, sound_opened, sums_opened}
 use Rattle.book.proofs.book.Book.open.Goals as goal
-use Rattle.book.specs.Sound.{Covered, InDay, InSlots, Light}
+use Rattle.book.specs.Sound.{IsSound}
 use Rattle.std.proofs.lemmas.Int.{ints}
 
 pub begin-requires : goal.begin-requires
@@ -42,10 +42,7 @@ invariant_of-result g c =
       laid = laid_opened ss kinds counts views;
       low = omega arith;
       even = omega (arith, ints, sums.even);
-      light = each_opened Light light_opened ss 0 kinds counts views;
-      covered = each_opened Covered covered_opened ss 0 kinds counts views;
-      in_day = each_opened InDay in_day_opened ss 0 kinds counts views;
-      in_slots = each_opened InSlots in_slots_opened ss 0 kinds counts views;
+      sound = each_opened IsSound sound_opened ss 0 kinds counts views;
     }
 
 pub returns : goal.returns

@@ -9,8 +9,8 @@ slice_bounds-result-end g c =
     let b = c.args.self.now in
     let at = c.in_ok-station.ensures.1 in
     let end = end_within b.stations.items c.args.t nobody at.station.stays.within b.laid in
-    let first = ap (λ (s : Station). s.members.first) at.station.is in
-    let count = ap (λ (s : Station). s.members.count) at.station.is in
+    let first = ap (λ (s : Station). s.plant.members.first) at.station.is in
+    let count = ap (λ (s : Station). s.plant.members.count) at.station.is in
     let fit = at.fit.accounts in
     let within : c.numbers.result.end ≤ length c.as_slice-accounts.result.now = omega (arith, end, first, count, fit) in
     search rules
