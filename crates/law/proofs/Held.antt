@@ -7,22 +7,22 @@ use Rattle.book.specs.Causes.{bad_blocks}
 use Rattle.book.specs.Questions.{account_answer, charge_answer, charge_refusal, missing_in_block, share_answer, share_refusal}
 use Rattle.book.specs.States.{State, admission, day_at, generator_admission, generator_presence, generators, no_generator, no_station, owner_of, presence, short_page, short_pages, station_at, wrong_phase}
 use Rattle.book.specs.Stations.{Ask, due_of, is_settled, moves}
-use Rattle.law.proofs.Kept.{Kept, Placed, figures_are, share_is, sheeted}
+use Rattle.law.proofs.Kept.{Kept, Placed, figures_are, loads_are, share_is, sheeted}
 use Rattle.law.proofs.Places.{Within, ends_all, find, in_all, owner_at}
 use Rattle.law.proofs.Same.{same_account, same_days, same_standing, unmoved}
 use Rattle.law.proofs.Together.{all_there}
 use Rattle.law.specs.Data.{Data, Layout}
 use Rattle.law.specs.Figures.{added, count_of, figures_of, first_of, loads_in, loads_of, share_of, standing, stations_in, weights_of}
 use Rattle.law.specs.Laws.{BlockLaw, Close, Law, SameData, SameDays, SameMoney, SameStation}
+use Rattle.posting.proofs.Blocks.{block_alive}
 use Rattle.posting.proofs.Sums.{all_shares, sum_to_same}
 use Rattle.posting.specs.Days.{StationDay, share_at, sum_to}
 use Rattle.posting.specs.Missing.{missing_at, missing_in}
 use Rattle.share.proofs.Fairness.{fair}
-use Rattle.share.specs.Keys.{NeverVanish}
+use Rattle.share.specs.Keys.{NeverVanish, weights}
 use Rattle.std.proofs.lemmas.Bool.{cond-false, le-ltb, lt-leb, or_from}
 use Rattle.std.proofs.lemmas.Int.{ints}
 use Rattle.std.proofs.lemmas.List.{length-map}
-use Rattle.std.specs.List.{AllByRecursion}
 use Rattle.units.specs.declared.fault.Page.TheVariants.{Schedules, Capacities, Readings, Accounts}
 use Rattle.units.specs.declared.station.Phase.TheVariants.{Settled}
 use Rattle.units.specs.declared.limits.TheConstants.{BLOCKS}
@@ -84,19 +84,12 @@ module _ (y : Layout) (d : Data) (s : State) (h : Kept y d s) where
         ∙ share_is y d day placed k b l
 
     -- the weights
-    built : (b g n : ℕ) → g + n ≤ sum y.counts → AllByRecursion (λ l. 0 < l.installed) (loads_in y d b g n)
-    built b g zero l = tt
-    built b g (suc n) l = (let p = h.powers.least g (omega arith) in omega arith, built b (g + 1) n (omega arith))
-
     many_weights : (b : ℕ) → length (weights_of s.rules y d t b) ≡ count_of y t
     many_weights b = length-map (loads_of y d t b) _ ∙ length_in y d b (first_of y t) (count_of y t)
 
-    alive_here : NeverVanish s.rules.weighs → (b : ℕ) → 0 < sum (weights_of s.rules y d t b)
-    alive_here alive b =
-        let count = h.stand.count t there in
-        let some = (station_at s t).plant.members.some in
-        let long = length_in y d b (first_of y t) (count_of y t) in
-        alive (loads_of y d t b) (omega (arith, long, count, some)) (built b (first_of y t) (count_of y t) (ends_all y.counts t there))
+    alive_here : NeverVanish s.rules.weighs → (b : ℕ) → b < BLOCKS → 0 < sum (weights_of s.rules y d t b)
+    alive_here alive b l =
+        subst (λ ls. 0 < sum (weights s.rules.weighs ls)) (loads_are y d day placed b l) (block_alive day alive b)
 
     module _ (settled : d.phase t ≡ Settled) where
       in_phase : (station_at s t).stage.phase ≡ Settled
@@ -134,7 +127,7 @@ module _ (y : Layout) (d : Data) (s : State) (h : Kept y d s) where
       block_law alive b l =
           let ws = weights_of s.rules y d t b in
           let long = many_weights b in
-          let some = alive_here alive b in
+          let some = alive_here alive b l in
           let f = figures_of s.rules y d t b in
           let is = charge_is b l in
           let fm = fair f.money ws some in

@@ -1,21 +1,17 @@
 -- A station's generators in one block, taken from the pages one by one.
-use Rattle.std.proofs.Common.{◌≡◌, ℕ, zero, suc, ◌+◌, ◌-◌, ◌*◌, ◌<◌, ◌≤◌, List, [], ◌∷◌, ◌++◌, length, ℤ, sum, sym, refl, ap, ◌∙◌, arith}
+use Rattle.std.proofs.Common.{◌≡◌, ℕ, zero, suc, ◌+◌, ◌-◌, ◌<◌, ◌≤◌, List, [], ◌∷◌, ◌++◌, length, ℤ, sum, sym, refl, ap, ◌∙◌, arith}
 use Rattle.posting.specs.Amounts.{amounts_at}
 use Rattle.posting.specs.Days.{StationDay, weights_at}
 use Rattle.posting.specs.Sheets.{Sheet, load_at, loads_at, loads_from}
 use Rattle.share.specs.declared.amounts.Amounts.{Amounts}
-use Rattle.share.specs.Keys.{NeverVanish, totals}
+use Rattle.share.proofs.Ranges.{IsOfGenerator, weights_alive}
+use Rattle.share.specs.Keys.{NeverVanish}
 use Rattle.share.specs.Loads.{loads}
 use Rattle.share.specs.Shares.{shares}
 use Rattle.share.specs.declared.generator.Generator.{Generator}
 use Rattle.std.proofs.lemmas.List.{length-map}
-use Rattle.std.proofs.lemmas.List.Sums.{sum_by-cons}
 use Rattle.std.specs.List.{AllByRecursion}
-
--- a station's actual is at most 200,000 kW a generator
-pub actual_small : (gs : List Generator) → (totals (loads gs)).actual ≤ length gs * 200000
-actual_small [] = omega arith
-actual_small (g ∷ gs) = rw sum_by-cons (omega (arith, actual_small gs))
+use Rattle.units.specs.declared.limits.TheConstants.{GENERATORS}
 
 module _ (s : Sheet) (b : ℕ) where
   pub length_loads : (g n : ℕ) → length (loads_from s b g n) ≡ n
@@ -37,17 +33,18 @@ module _ (s : Sheet) (b : ℕ) where
   pub count_to : (gs : List Generator) (from g : ℕ) → loads gs ≡ loads_from s b from (g - from) → length gs ≡ g - from
   count_to gs from g e = sym (length-map gs (λ x. x.load)) ∙ ap length e ∙ length_loads from (g - from)
 
-  -- each generator has some power installed
-  built : (g n : ℕ) → AllByRecursion (λ l. 0 < l.installed) (loads_from s b g n)
-  built g zero = tt
-  built g (suc n) = (omega arith, built (g + 1) n)
+  of_generators : (g n : ℕ) → AllByRecursion IsOfGenerator (loads_from s b g n)
+  of_generators g zero = tt
+  of_generators g (suc n) =
+      (record { some = omega arith; actual = omega arith; capacity = omega arith; installed = omega arith }, of_generators (g + 1) n)
 
 -- a key's weights for a block do not all vanish
 pub block_alive : (d : StationDay) → NeverVanish d.rules.weighs → (b : ℕ) → 0 < sum (weights_at d b)
 block_alive d alive b =
     let m = d.members in
     let some : 0 < length (loads_at d.sheet m b) = rw length_loads (omega arith) in
-    alive (loads_at d.sheet m b) some (built d.sheet b m.first m.count)
+    let few : length (loads_at d.sheet m b) ≤ GENERATORS = rw length_loads (omega arith) in
+    weights_alive d.rules.weighs alive (loads_at d.sheet m b) some few (of_generators d.sheet b m.first m.count)
 
 pub same_amounts : {a b c d : ℤ} → a ≡ b → c ≡ d → ◌≡◌ {A = Amounts} (record { money = a; energy = c }) (record { money = b; energy = d })
 same_amounts p q = cc

@@ -18,10 +18,10 @@ use share::key::Key;
 use share::weights::Weights;
 use tariff::query::Query;
 use tariff::tariff::{Tariff, sized_charge};
-use units::limits::GENERATORS;
+use units::limits::{GENERATORS, STATION_KW};
 
 /// What a station owes for a block and by how much it deviates from its schedule, and each generator's share of the two, in their order.
-#[derive(Clone, Drop)]
+#[derive(Drop)]
 pub struct BlockShares {
     pub figures: Amounts,
     pub each: ArrayVec<Amounts, GENERATORS>,
@@ -53,8 +53,8 @@ impl<T: Tariff, K: Key> Day<'_, T, K> {
     /// What the tariff is asked in a block.
     fn query(&self, block: u8, generators: &Generators) -> Query
         ensures value { result ≡ query_of self.now.pages.now.schedules.items self.now.station block (loads generators.now.each.now) }
-        ensures schedule { result.schedule ≤ 6400000 }
-        ensures actual { result.actual ≤ 6400000 }
+        ensures schedule { result.schedule ≤ STATION_KW }
+        ensures actual { result.actual ≤ STATION_KW }
     {
         let load = generators.load();
         Query {

@@ -17,7 +17,7 @@ use tariff::tariff::Tariff;
 use units::limits::GENERATORS;
 
 /// What a block costs a station, and what each of its generators bears.
-#[derive(Clone, Drop)]
+#[derive(Drop)]
 pub struct Quotation {
     /// The schedule, the actual and the capacity of the station.
     pub query: Query,

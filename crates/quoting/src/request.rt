@@ -2,14 +2,13 @@
 mod asks;
 mod reads;
 
-ghost use Rattle.std.specs.Bool.{⊤};
-ghost use Rattle.std.specs.Prelude.{◌≡◌, ◌<◌, ◌≤◌, length};
+ghost use Rattle.std.specs.Prelude.{◌<◌, ◌≤◌, length};
+ghost use Rattle.units.specs.declared.limits.TheConstants.{STATION_KW};
 
 use crate::choice::{KeyChoice, TariffChoice};
 use arrayvec::ArrayVec;
 pub use reads::read_request;
 use share::generator::Generator;
-use std::alloc::AllocError;
 use units::limits::GENERATORS;
 
 /// A tariff, a key, a schedule of at most 6,400,000 kW, and 1 to 32 generators.
@@ -19,21 +18,6 @@ pub struct Request {
     pub(crate) key: KeyChoice,
     pub(crate) schedule: u32,
     pub(crate) generators: ArrayVec<Generator, GENERATORS>,
-    ghost within: { schedule ≤ 6400000 },
+    ghost within: { schedule ≤ STATION_KW },
     ghost some: { 0 < length generators.items },
-}
-
-impl Clone for Request {
-    ghost is_clone = { λ q r. (r.tariff ≡ q.tariff) × (r.key ≡ q.key) × (r.schedule ≡ q.schedule) × (r.generators ≡ q.generators) };
-
-    ghost is_infallible = { λ _. ⊤ };
-
-    fn clone(&self) -> Result<Request, AllocError> {
-        Ok(Request {
-            tariff: self.tariff,
-            key: self.key,
-            schedule: self.schedule,
-            generators: self.generators.clone()?,
-        })
-    }
 }

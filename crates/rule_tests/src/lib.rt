@@ -8,4 +8,6 @@ mod piles;
 #[cfg(test)]
 mod shares;
 #[cfg(test)]
+mod square;
+#[cfg(test)]
 mod wording;

@@ -1,7 +1,8 @@
 -- The weights of a station's generators, and the two keys.
-use Rattle.std.specs.Prelude.{ℕ, ◌<◌, max, cond, List, length, map, sum_by, sum, nat_lt}
+use Rattle.std.specs.Prelude.{ℕ, ◌<◌, ◌≤◌, max, cond, List, length, map, sum_by, sum, nat_lt}
 use Rattle.share.specs.declared.load.Load.{Load}
 use Rattle.std.specs.List.{AllByRecursion}
+use Rattle.units.specs.declared.limits.TheConstants.{STATION_KW}
 
 abbrev pub largest : Load → ℕ
 largest l = max l.actual (max l.capacity l.installed)
@@ -14,9 +15,18 @@ totals ls = record { actual = sum_by (λ l. l.actual) ls; capacity = sum_by (λ 
 abbrev pub weights : (Load → Load → ℕ) → List Load → List ℕ
 weights w ls = map (λ l. w l (totals ls)) ls
 
--- over one generator or more, each with some power installed, the weights by w do not all vanish
+-- power that a generator or a station can have: each number is at most STATION_KW
+pub record IsLoadInRange (l : Load) : Type 0 where
+  pub actual : l.actual ≤ STATION_KW
+  pub capacity : l.capacity ≤ STATION_KW
+  pub installed : l.installed ≤ STATION_KW
+
+-- Over one generator or more, each with some power installed, the weights by w do not all vanish.
+-- That is asked of loads in range alone, with totals in range.
 abbrev pub NeverVanish : (Load → Load → ℕ) → Type 0
-NeverVanish w = (ls : List Load) → 0 < length ls → AllByRecursion (λ l. 0 < l.installed) ls → 0 < sum (weights w ls)
+NeverVanish w =
+    (ls : List Load) → 0 < length ls → AllByRecursion (λ l. (0 < l.installed) × IsLoadInRange l) ls
+    → IsLoadInRange (totals ls) → 0 < sum (weights w ls)
 
 abbrev pub by_capacity : Load → Load → ℕ
 by_capacity own station = cond (nat_lt 0 station.capacity) own.capacity own.installed

@@ -1,5 +1,6 @@
 -- An amount split over weights, in their order, by its magnitude and its sign.
-use Rattle.std.specs.Prelude.{◌≡◌, ℕ, ◌+◌, ◌*◌, ◌/◌, ◌<◌, ◌≤◌, List, [], ◌∷◌, length, take, ℤ, pos, negsuc, ◌+ℤ◌, ◌-ℤ◌, ◌*ℤ◌, neg_ℤ, sum, slice_index, slice_index_or, unsigned_abs}
+use Rattle.std.specs.Prelude.{◌≡◌, ℕ, ◌+◌, ◌*◌, ◌/◌, ◌^◌, ◌<◌, ◌≤◌, List, [], ◌∷◌, length, take, ℤ, pos, negsuc, ◌+ℤ◌, ◌-ℤ◌, ◌*ℤ◌, neg_ℤ, sum, slice_index, slice_index_or, unsigned_abs}
+use Rattle.units.specs.declared.limits.TheConstants.{GENERATORS}
 
 -- the magnitude n under the sign of m
 abbrev pub under : ℤ → ℕ → ℤ
@@ -26,6 +27,12 @@ shares m ws = shares_from m (sum ws) 0 ws
 abbrev pub together : List ℤ → ℤ
 together [] = pos 0
 together (x ∷ xs) = x +ℤ together xs
+
+-- the numbers that an amount is split over: at most GENERATORS, which add up to more than nothing and to less than 2 ^ 64
+pub record AreWeights (ws : List ℕ) : Type 0 where
+  pub few : length ws ≤ GENERATORS
+  pub some : 0 < sum ws
+  pub fit : sum ws < 2 ^ 64
 
 -- what the shares of an amount are, whatever the weights, if they do not all vanish
 pub record Fair (m : ℤ) (ws : List ℕ) : Type 0 where

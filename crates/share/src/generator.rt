@@ -2,6 +2,7 @@
 mod nearest;
 
 ghost use Rattle.std.specs.Prelude.{◌≤◌};
+ghost use Rattle.units.specs.declared.limits.TheConstants.{GENERATOR_KW, LEAST_INSTALLED, MOST_INSTALLED};
 
 use crate::load::Load;
 
@@ -9,8 +10,8 @@ use crate::load::Load;
 #[derive(Clone, Copy)]
 pub struct Generator {
     load: Load,
-    ghost least: { 1000 ≤ load.installed },
-    ghost most: { load.installed ≤ 200000 },
+    ghost least: { LEAST_INSTALLED ≤ load.installed },
+    ghost most: { load.installed ≤ MOST_INSTALLED },
     ghost able: { load.capacity ≤ load.installed },
-    ghost metered: { load.actual ≤ 200000 },
+    ghost metered: { load.actual ≤ GENERATOR_KW },
 }

@@ -4,6 +4,7 @@ mod totals;
 ghost use Rattle.share.specs.Keys.{totals};
 ghost use Rattle.share.specs.Loads.{loads};
 ghost use Rattle.std.specs.Prelude.{◌≡◌, ◌<◌, ◌≤◌, length};
+ghost use Rattle.units.specs.declared.limits.TheConstants.{GENERATORS};
 
 use crate::generator::Generator;
 use crate::load::Load;
@@ -14,6 +15,6 @@ pub struct Generators<'a> {
     each: &'a [Generator],
     load: Load,
     ghost some: { 0 < length each.now },
-    ghost few: { length each.now ≤ 32 },
+    ghost few: { length each.now ≤ GENERATORS },
     ghost whole: { load ≡ totals (loads each.now) },
 }

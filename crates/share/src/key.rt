@@ -1,6 +1,6 @@
 //! How a station's amounts are split: a key gives each generator a weight.
 ghost use Rattle.std.specs.Prelude.{◌≡◌, ℕ, ◌≤◌};
-ghost use Rattle.share.specs.Keys.{NeverVanish, by_capacity, by_units, largest};
+ghost use Rattle.share.specs.Keys.{IsLoadInRange, NeverVanish, by_capacity, by_units, largest};
 ghost use Rattle.share.specs.declared.load.Load.{Load};
 ghost use Rattle.share.specs.Alive.{units_alive, capacity_alive};
 ghost use Rattle.std.proofs.Common.{rules};
@@ -14,10 +14,10 @@ pub trait Key {
     fn weight(&self, own: &Load, station: &Load) -> u32
         ensures { result ≡ weighs own.now station.now };
 
-    // A weight is at most the largest of the generator's own numbers.
-    ghost bounded: { (own station : Load) → weighs own station ≤ largest own };
+    // Where the generator's numbers and the totals are at most STATION_KW, a weight is at most the largest of the generator's numbers.
+    ghost bounded: { (own station : Load) → IsLoadInRange own → IsLoadInRange station → weighs own station ≤ largest own };
 
-    // Over one generator or more, each with some power installed, the weights do not all vanish.
+    // Over one generator or more, each with some power installed, the weights do not all vanish, where these numbers and the totals are at most STATION_KW.
     ghost alive: { NeverVanish weighs };
 }
 

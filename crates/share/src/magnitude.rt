@@ -4,21 +4,16 @@ ghost use Rattle.share.specs.Shares.{under};
 
 use crate::quotient::quotient;
 
-/// Below this, a magnitude times a sum of weights fits 64 bits.
-const NARROW: u64 = 1 << 40;
-
 /// `magnitude * sum / total`, rounded down.
-pub(crate) fn part_of(magnitude: u64, sum: u32, total: u32, inverse: u64) -> u64
+pub(crate) fn part_of(magnitude: u64, sum: u64, total: u64, inverse: u64) -> u64
     requires inside { sum ≤ total }
     requires some { 0 < total }
-    requires few { total ≤ 6400000 }
     ensures value { result ≡ magnitude * sum / total }
     ensures within { result ≤ magnitude }
 {
-    if magnitude < NARROW {
-        quotient(magnitude * u64::from(sum), u64::from(total), inverse)
-    } else {
-        (u128::from(magnitude) * u128::from(sum) / u128::from(total)) as u64
+    match magnitude.checked_mul(sum) {
+        Some(product) => quotient(product, total, inverse),
+        None => (u128::from(magnitude) * u128::from(sum) / u128::from(total)) as u64,
     }
 }
 

@@ -2,10 +2,10 @@
 ghost use Rattle.std.specs.Prelude.{◌≡◌, ◌/◌, ◌<◌};
 
 /// What a number is multiplied by to guess its quotient by `total`: 2^64 / `total`, rounded up.
-pub(crate) fn inverse_of(total: u32) -> u64
+pub(crate) fn inverse_of(total: u64) -> u64
     requires { 0 < total }
 {
-    (u64::MAX / u64::from(total)).saturating_add(1)
+    (u64::MAX / total).saturating_add(1)
 }
 
 /// `n / total`, rounded down. It is guessed by a multiplication, and the guess is tried,

@@ -10,23 +10,21 @@ use crate::magnitude::{part_of, signed};
 pub struct Splitter {
     amount: i64,
     magnitude: u64,
-    total: u32,
+    total: u64,
     /// What guesses a quotient by `total`.
     inverse: u64,
-    sum: u32,
+    sum: u64,
     part: u64,
     ghost size: { magnitude ≡ unsigned_abs amount },
     ghost some: { 0 < total },
-    ghost few: { total ≤ 6400000 },
     ghost inside: { sum ≤ total },
     ghost rounded: { part ≡ magnitude * sum / total },
 }
 
 impl Splitter {
     /// No weight yet.
-    pub(crate) fn new(amount: i64, total: u32, inverse: u64) -> Splitter
-        requires some { 0 < total }
-        requires few { total ≤ 6400000 }
+    pub(crate) fn new(amount: i64, total: u64, inverse: u64) -> Splitter
+        requires { 0 < total }
         ensures amount { result.amount ≡ amount }
         ensures total { result.total ≡ total }
         ensures sum { result.sum ≡ 0 }
@@ -43,7 +41,7 @@ impl Splitter {
 
     /// The share of the weight that comes next; of one that passes the total, of what is left.
     #[tactic(auto, using(crate::proofs::Splits::step))]
-    pub fn share_of(&mut self, weight: u32) -> i64
+    pub fn share_of(&mut self, weight: u64) -> i64
         ensures share { result ≡ next_share self.old.amount self.old.total self.old.sum
             (min weight (self.old.total - self.old.sum)) }
         ensures amount { self.new.amount ≡ self.old.amount }

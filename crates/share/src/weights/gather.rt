@@ -1,8 +1,9 @@
-//! A key's weights for a station's generators.
+//! Weights by a key, or as they are given.
 ghost use Rattle.share.specs.Held.{held};
 ghost use Rattle.share.specs.Keys.{weights};
 ghost use Rattle.share.specs.Loads.{loads};
-ghost use Rattle.std.specs.Prelude.{◌≡◌};
+ghost use Rattle.share.specs.Shares.{AreWeights};
+ghost use Rattle.std.specs.Prelude.{◌≡◌, ◌≤◌, MatchOption, sum};
 
 use crate::generator::Generator;
 use crate::generators::Generators;
@@ -11,6 +12,7 @@ use crate::load::Load;
 use crate::quotient::inverse_of;
 use crate::weights::Weights;
 use arrayvec::ArrayVec;
+use units::limits::{GENERATORS, STATION_KW};
 
 /// The weight that a key gives one generator.
 fn weight_of<K: Key>(key: &K, generator: &Generator, station: &Load) -> u32
@@ -20,15 +22,39 @@ fn weight_of<K: Key>(key: &K, generator: &Generator, station: &Load) -> u32
 }
 
 impl Weights {
-    /// The weight that the key gives each generator.
+    /// These weights, in their order. `None` if there are more than 32, or if they add up to nothing or to 2^64 or more.
+    pub fn given(each: &[u64]) -> Option<Weights>
+        ensures { MatchOption result (AreWeights each.now → ⊥) (λ w. AreWeights each.now × (held w ≡ each.now)) }
+    {
+        if each.len() > GENERATORS {
+            return None;
+        }
+        let mut kept = ArrayVec::new();
+        let mut total: u64 = 0;
+        for &weight in each {
+            kept.push(weight);
+            total = total.checked_add(weight)?;
+        }
+        if total == 0 {
+            return None;
+        }
+        Some(Weights {
+            each: kept,
+            total,
+            inverse: inverse_of(total),
+        })
+    }
+
+    /// The weight that the key gives each generator. They add up to at most 6,400,000.
     pub fn of<K: Key>(key: &K, generators: &Generators) -> Weights
-        ensures { held result ≡ weights K.Key.weighs (loads generators.now.each.now) }
+        ensures value { held result ≡ weights K.Key.weighs (loads generators.now.each.now) }
+        ensures small { sum (held result) ≤ STATION_KW }
     {
         let station = generators.load();
         let mut each = ArrayVec::new();
         let mut total = 0;
         for generator in generators.each() {
-            let weight = weight_of(key, generator, &station);
+            let weight = u64::from(weight_of(key, generator, &station));
             each.push(weight);
             total += weight;
         }

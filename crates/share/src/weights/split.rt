@@ -16,9 +16,9 @@ use units::limits::GENERATORS;
 
 impl Weights {
     /// The weights, in their order.
-    pub fn each(&self) -> &[u32]
+    pub fn each(&self) -> &[u64]
         ensures value { result.now ≡ held self.now }
-        ensures few { length result.now ≤ 32 }
+        ensures few { length result.now ≤ GENERATORS }
     {
         self.each.as_slice()
     }
@@ -62,7 +62,7 @@ impl Weights {
 /// Each share of money with that of energy.
 fn paired(money: &[i64], energy: &[i64]) -> ArrayVec<Amounts, GENERATORS>
     requires same { length money.now ≡ length energy.now }
-    requires few { length money.now ≤ 32 }
+    requires few { length money.now ≤ GENERATORS }
     ensures money { moneys result.items ≡ money.now }
     ensures energy { energies result.items ≡ energy.now }
 {

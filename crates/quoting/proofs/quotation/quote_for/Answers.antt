@@ -11,7 +11,7 @@ returns g c =
     let gs = c.args.generators.now.each.now in
     let ws = weights g.K.Key.weighs (loads gs) in
     let split = c.split_amounts-each.ensures in
-    let money = split.money ∙ ap (shares _) c.of.ensures in
+    let money = split.money ∙ ap (shares _) c.of.ensures.value in
     record {
       query = c.query_for-query.ensures;
       deviation = search rules ∙ c.deviation.ensures;
@@ -20,7 +20,7 @@ returns g c =
           sym (length-map c.split_amounts-each.result.items (λ a. a.money)) ∙ ap length money ∙ length_shares _ ws
           ∙ length-map (loads gs) (λ l. g.K.Key.weighs l (totals (loads gs))) ∙ length-map gs (λ x. x.load);
       money = money;
-      energy = split.energy ∙ ap (shares _) c.of.ensures;
-      fair_money = subst (Fair _) c.of.ensures split.fair.0;
-      fair_energy = subst (Fair _) c.of.ensures split.fair.1;
+      energy = split.energy ∙ ap (shares _) c.of.ensures.value;
+      fair_money = subst (Fair _) c.of.ensures.value split.fair.0;
+      fair_energy = subst (Fair _) c.of.ensures.value split.fair.1;
     }
