@@ -1,21 +1,24 @@
 -- A station's generators in one block, taken from the pages one by one.
-use Rattle.std.proofs.Common.{◌≡◌, ℕ, zero, suc, ◌+◌, ◌-◌, ◌*◌, ◌<◌, ◌≤◌, List, [], ◌∷◌, ◌++◌, length, ℤ, sum, sym, refl, ap, ◌∙◌, arith}
+use Rattle.std.proofs.Common.{◌≡◌, ℕ, zero, suc, ◌+◌, ◌-◌, ◌*◌, ◌<◌, ◌≤◌, List, [], ◌∷◌, ◌++◌, length, ℤ, sum, sum_by, sym, refl, ap, ◌∙◌, arith}
 use Rattle.posting.specs.Amounts.{amounts_at}
 use Rattle.posting.specs.Days.{StationDay, weights_at}
 use Rattle.posting.specs.Sheets.{Sheet, load_at, loads_at, loads_from}
 use Rattle.share.specs.declared.amounts.Amounts.{Amounts}
-use Rattle.share.specs.Keys.{NeverVanish, totals}
+use Rattle.share.specs.Keys.{NeverVanish}
 use Rattle.share.specs.Loads.{loads}
 use Rattle.share.specs.Shares.{shares}
 use Rattle.share.specs.declared.generator.Generator.{Generator}
+use Rattle.share.specs.declared.load.Load.{Load}
 use Rattle.std.proofs.lemmas.List.{length-map}
 use Rattle.std.proofs.lemmas.List.Sums.{sum_by-cons}
 use Rattle.std.specs.List.{AllByRecursion}
+use Rattle.units.specs.declared.limits.TheConstants.{GENERATOR_KW}
 
--- a station's actual is at most 200,000 kW a generator
-pub actual_small : (gs : List Generator) → (totals (loads gs)).actual ≤ length gs * 200000
-actual_small [] = omega arith
-actual_small (g ∷ gs) = rw sum_by-cons (omega (arith, actual_small gs))
+-- a power of each generator is at most GENERATOR_KW, so a station's is at most that for each of them
+pub power_small : (power : Load → ℕ) → ((g : Generator) → power g.load ≤ GENERATOR_KW) → (gs : List Generator)
+    → sum_by power (loads gs) ≤ length gs * GENERATOR_KW
+power_small power low [] = omega arith
+power_small power low (g ∷ gs) = rw sum_by-cons (omega (arith, low g, power_small power low gs))
 
 module _ (s : Sheet) (b : ℕ) where
   pub length_loads : (g n : ℕ) → length (loads_from s b g n) ≡ n
