@@ -9,6 +9,7 @@ use Rattle.tariff.specs.Bands.{banded_charge}
 use Rattle.layers.specs.Penalties.{penal}
 use Rattle.tariff.specs.Rates.{single}
 use Rattle.tariff.specs.declared.banded.Banded.TheVariants.{From10, From15}
+use Rattle.tariff.specs.declared.banded.TheConstants.{BANDED_CEILING}
 use Rattle.tariff.specs.declared.query.Query.{Query}
 use Rattle.units.specs.Faults.{refusal_of}
 use Rattle.units.specs.declared.station.Kind.{Kind}
@@ -48,7 +49,7 @@ WorkedFigures =
     (from15 (asked 1000 1301 1000) ≡ pos 2525) ×
     (single 300 200 (asked 1000 990 1000) ≡ pos 750) ×
     (single 300 200 (asked 1000 1010 1000) ≡ negsuc 449) ×
-    (penal 38 2 due_in_block7 from10 (asked 1000 1301 2000) ≡ pos 11364) ×
+    (penal BANDED_CEILING 2 due_in_block7 from10 (asked 1000 1301 2000) ≡ pos 11364) ×
     (shares (pos 100) equal_weights ≡ pos 33 ∷ pos 33 ∷ pos 34 ∷ []) ×
     (shares (negsuc 99) equal_weights ≡ negsuc 32 ∷ negsuc 32 ∷ negsuc 33 ∷ []) ×
     (notice_number Wind 92 ≡ None) × (first_revised 92 ≡ 95) × (notice_number Wind 93 ≡ Some 13) ×

@@ -1,36 +1,77 @@
 -- What a penalty keeps of the laws below it.
-use Rattle.std.specs.Prelude.{◌≡◌, ℕ, ◌*◌, ◌≤◌, Bool, true, false, cond, List, ℤ, pos, negsuc, Some, None, Option, unsigned_abs}
+use Rattle.std.specs.Prelude.{◌≡◌, ℕ, zero, suc, ◌*◌, ◌≤◌, Bool, true, false, cond, List, [], ◌∷◌, ℤ, pos, negsuc, Some, None, Option, IfSome, refl, is_none, ◌==◌, nat_lt, slice_index_or, unsigned_abs}
+use Rattle.layers.specs.Penalties.{applies, at_capacity, bad_capacity, corrected, due_capacity, first_one_above, multiplied, penal, raised}
+use Rattle.layers.specs.declared.penalty.TheConstants.{HIGHEST_BELOW, PENALTY_FACTOR}
+use Rattle.std.proofs.Common.{arith, mul_assoc}
+use Rattle.std.proofs.lemmas.Bool.{cond_both, ltb-false}
 use Rattle.tariff.specs.Charges.{magnitude}
-use Rattle.layers.specs.Penalties.{trebled, at_capacity, applies, raised, corrected, due_capacity, penal}
+use Rattle.tariff.specs.Ranges.{IsInRange}
+use Rattle.tariff.specs.RangesLemmas.{in_range-true}
 use Rattle.tariff.specs.declared.query.Query.{Query}
-use Rattle.std.proofs.Common.{mul_assoc, arith}
+use Rattle.units.specs.declared.fault.Fault.TheVariants.{BadPenalty}
+use Rattle.units.specs.declared.fault.Fault.{Fault}
+use Rattle.units.specs.declared.limits.TheConstants.{STATION_KW}
 
-trebled_bounded : (z : ℤ) → unsigned_abs (trebled z) ≤ 3 * unsigned_abs z
-trebled_bounded (pos n) = omega arith
-trebled_bounded (negsuc n) = omega arith
+-- A capacity that a station can have, if there is one.
+abbrev IsLow : Option ℕ → Type 0
+IsLow o = IfSome o (λ kw. kw ≤ STATION_KW)
 
-module _ (ceiling : ℕ) (below : Query → ℤ) (bounded : (q : Query) → unsigned_abs (below q) ≤ ceiling * magnitude q) where
-  corrected_bounded : (o : Option ℕ) (q : Query) → unsigned_abs (corrected o below q) ≤ 3 * ceiling * magnitude q
-  corrected_bounded None q = omega (arith, bounded q, mul_assoc 3 ceiling (magnitude q))
-  corrected_bounded (Some kw) q =
-      omega (arith, trebled_bounded (below (at_capacity kw q)), bounded (at_capacity kw q), mul_assoc 3 ceiling (magnitude q))
+goes_on : (b : Bool) (x : ℕ) (o : Option ℕ) → cond b (Some x) o ≡ None → (b ≡ false) × (o ≡ None)
+goes_on true x o h = absurd cc
+goes_on false x o h = (refl, h)
 
-  penal_at : (b : Bool) (o : Option ℕ) (q : Query) →
-      unsigned_abs (cond b (corrected o below q) (below q)) ≤ cond b (3 * ceiling) ceiling * magnitude q
-  penal_at true o q = corrected_bounded o q
-  penal_at false o q = bounded q
+-- where no capacity is too high, none is at any block
+pub entry_low : (due : List (Option ℕ)) (i : ℕ) → first_one_above due ≡ None → IfSome (slice_index_or due i None) (λ kw. kw ≤ STATION_KW)
+entry_low [] i none = tt
+entry_low (None ∷ due) zero none = tt
+entry_low (None ∷ due) (suc i) none = entry_low due i none
+entry_low (Some kw ∷ due) zero none = ltb-false _ _ (goes_on (nat_lt STATION_KW kw) kw (first_one_above due) none).0
+entry_low (Some kw ∷ due) (suc i) none = entry_low due i (goes_on (nat_lt STATION_KW kw) kw (first_one_above due) none).1
 
-  pub penal_bounded : (station : ℕ) (due : List (Option ℕ)) (q : Query) →
+no_reason : (b : Bool) (f : Fault) (o : Option ℕ) → is_none (cond b (Some f) (bad_capacity o)) ≡ true → o ≡ None
+no_reason true f o h = absurd cc
+no_reason false f None h = refl
+no_reason false f (Some kw) h = absurd cc
+
+-- where a penalty applies, no capacity that is due is too high
+applied_low : (ceiling station : ℕ) (due : List (Option ℕ)) (q : Query) → applies ceiling due ≡ true → IsLow (due_capacity station due q)
+applied_low ceiling station due q h =
+    let none = no_reason (nat_lt HIGHEST_BELOW ceiling) (BadPenalty ceiling) (first_one_above due) h in
+    cond_both (q.station == station) _ None IsLow (λ _. entry_low due q.block none) (λ _. tt)
+
+-- the question at a capacity that a station can have
+at_low : (q : Query) (kw : ℕ) → IsInRange q → kw ≤ STATION_KW → IsInRange (at_capacity kw q)
+at_low q kw r low = record { schedule = r.schedule; actual = r.actual; capacity = low }
+
+multiplied_bounded : (z : ℤ) → unsigned_abs (multiplied z) ≤ PENALTY_FACTOR * unsigned_abs z
+multiplied_bounded (pos n) = omega arith
+multiplied_bounded (negsuc n) = omega arith
+
+module _ (ceiling : ℕ) (below : Query → ℤ) (bounded : (q : Query) → IsInRange q → unsigned_abs (below q) ≤ ceiling * magnitude q) where
+  corrected_bounded : (o : Option ℕ) (q : Query) → IsInRange q → IsLow o → unsigned_abs (corrected o below q) ≤ PENALTY_FACTOR * ceiling * magnitude q
+  corrected_bounded None q r low = omega (arith, bounded q r, mul_assoc PENALTY_FACTOR ceiling (magnitude q))
+  corrected_bounded (Some kw) q r low =
+      let there : unsigned_abs (below (at_capacity kw q)) ≤ ceiling * magnitude q = bounded (at_capacity kw q) (at_low q kw r low) in
+      omega (arith, multiplied_bounded (below (at_capacity kw q)), there, mul_assoc PENALTY_FACTOR ceiling (magnitude q))
+
+  bounded_at : (b : Bool) (o : Option ℕ) (q : Query) → IsInRange q → (b ≡ true → IsLow o) →
+      unsigned_abs (cond b (corrected o below q) (below q)) ≤ cond b (PENALTY_FACTOR * ceiling) ceiling * magnitude q
+  bounded_at true o q r low = corrected_bounded o q r (low refl)
+  bounded_at false o q r low = bounded q r
+
+  pub penal_bounded : (station : ℕ) (due : List (Option ℕ)) (q : Query) → IsInRange q →
       unsigned_abs (penal ceiling station due below q) ≤ raised ceiling due * magnitude q
-  penal_bounded station due q = penal_at (applies ceiling due) (due_capacity station due q) q
+  penal_bounded station due q r =
+      rw ((in_range-true q).1 r) (bounded_at (applies ceiling due) (due_capacity station due q) q r (applied_low ceiling station due q))
 
-module _ (below : Query → ℤ) (settled : (q : Query) → q.actual ≡ q.schedule → below q ≡ pos 0) where
-  corrected_settled : (b : Bool) (o : Option ℕ) (q : Query) → q.actual ≡ q.schedule →
+module _ (ceiling : ℕ) (below : Query → ℤ) (settled : (q : Query) → IsInRange q → q.actual ≡ q.schedule → below q ≡ pos 0) where
+  settled_at : (b : Bool) (o : Option ℕ) (q : Query) → IsInRange q → (b ≡ true → IsLow o) → q.actual ≡ q.schedule →
       cond b (corrected o below q) (below q) ≡ pos 0
-  corrected_settled true None q h = settled q h
-  corrected_settled true (Some kw) q h = rw (settled (at_capacity kw q) h)
-  corrected_settled false o q h = settled q h
+  settled_at true None q r low h = settled q r h
+  settled_at true (Some kw) q r low h = rw (settled (at_capacity kw q) (at_low q kw r (low refl)) h)
+  settled_at false o q r low h = settled q r h
 
-  pub penal_settled : (ceiling station : ℕ) (due : List (Option ℕ)) (q : Query) → q.actual ≡ q.schedule →
+  pub penal_settled : (station : ℕ) (due : List (Option ℕ)) (q : Query) → IsInRange q → q.actual ≡ q.schedule →
       penal ceiling station due below q ≡ pos 0
-  penal_settled ceiling station due q h = corrected_settled (applies ceiling due) (due_capacity station due q) q h
+  penal_settled station due q r h =
+      rw ((in_range-true q).1 r) (settled_at (applies ceiling due) (due_capacity station due q) q r (applied_low ceiling station due q) h)

@@ -1,8 +1,9 @@
 -- A waiver for the blocks of a grid disturbance.
-use Rattle.std.specs.Prelude.{ℕ, cond, ℤ, pos}
+use Rattle.std.specs.Prelude.{ℕ, ◌&&◌, ℤ, pos, if◌then◌else◌}
+use Rattle.tariff.specs.Ranges.{in_range}
 use Rattle.tariff.specs.declared.query.Query.{Query}
 use Rattle.units.specs.Bits.{has}
 
--- Nothing is charged in a disturbed block; all else comes from below.
+-- Nothing is charged in a disturbed block; all else, and each query outside the range, comes from below.
 abbrev pub waived : ℕ → (Query → ℤ) → Query → ℤ
-waived disturbed below q = cond (has disturbed q.block) (pos 0) (below q)
+waived disturbed below q = if in_range q && has disturbed q.block then pos 0 else below q

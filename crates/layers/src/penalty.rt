@@ -1,5 +1,5 @@
-ghost use Rattle.std.specs.Prelude.{◌≡◌, ◌^◌, ◌<◌, None, unsigned_abs};
-ghost use Rattle.layers.specs.Penalties.{applies, bad_capacity, due_capacity, first_one_above, penal, penalty_refused, raised, trebled};
+ghost use Rattle.std.specs.Prelude.{◌≡◌, ◌≤◌, IfSome, None, slice_index_or, unsigned_abs};
+ghost use Rattle.layers.specs.Penalties.{applies, bad_capacity, due_capacity, first_one_above, multiplied, penal, penalty_refused, raised};
 ghost use Rattle.layers.specs.PenaltiesLemmas.{penal_settled, penal_bounded};
 ghost use Rattle.units.specs.Refusals.{Checks};
 ghost use Rattle.std.proofs.Common.{rules};
@@ -7,10 +7,13 @@ ghost use Rattle.std.proofs.Common.{rules};
 use tariff::query::Query;
 use tariff::tariff::{Tariff, sized_charge};
 use units::fault::Fault;
-use units::limits::{BLOCKS, STATION_KW};
+use units::limits::{BLOCK_PAISE, BLOCKS, HIGHEST_CEILING, STATION_KW};
 
-/// The highest ceiling below a penalty: three times it is still a ceiling.
-const HIGHEST_BELOW: u32 = 3_333;
+/// What a penalty multiplies a charge by.
+const PENALTY_FACTOR: u32 = 3;
+
+/// The highest ceiling below a penalty: that of the penalty is still a ceiling.
+const HIGHEST_BELOW: u32 = HIGHEST_CEILING / PENALTY_FACTOR;
 
 /// For each block, the capacity that should have been declared, if another was: none that no station has.
 #[derive(Clone, Copy)]
@@ -20,7 +23,7 @@ struct DueCapacities {
 }
 
 /// A tariff that charges one station threefold in the blocks for which it declared a wrong capacity.
-/// Over a ceiling above 3,333 it changes nothing, and `new` makes none.
+/// It changes no charge of a query outside the range. Over a ceiling above 3,333 it changes nothing, and `new` makes none.
 #[derive(Clone, Copy)]
 pub struct Penalty<T> {
     below: T,
@@ -28,12 +31,12 @@ pub struct Penalty<T> {
     due: DueCapacities,
 }
 
-/// Three times a charge that is payable, and nothing for one that is receivable.
-fn threefold(charge: i64) -> i64
-    requires { unsigned_abs charge < 2 ^ 46 }
-    ensures { result ≡ trebled charge }
+/// A charge that is payable, multiplied, and nothing for one that is receivable.
+fn multiply(charge: i64) -> i64
+    requires { unsigned_abs charge ≤ BLOCK_PAISE }
+    ensures { result ≡ multiplied charge }
 {
-    3 * charge.max(0)
+    i64::from(PENALTY_FACTOR) * charge.max(0)
 }
 
 /// The first capacity that no station has.
@@ -49,7 +52,7 @@ fn first_above(due: &[Option<u32>; BLOCKS]) -> Option<u32>
 impl DueCapacities {
     /// The capacities, or the first against which there is a reason.
     fn new(due: [Option<u32>; BLOCKS]) -> Result<DueCapacities, Fault>
-        ensures { Checks (bad_capacity (first_one_above due)) (λ capacities. capacities.blocks ≡ due) result }
+        ensures { Checks (bad_capacity (first_one_above due)) (λ c. c.blocks ≡ due) result }
     {
         match first_above(&due) {
             Some(kw) => Err(Fault::BadPenalty {
@@ -58,12 +61,20 @@ impl DueCapacities {
             None => Ok(DueCapacities { blocks: due }),
         }
     }
+
+    /// The capacity that should have been declared for a block, if another was.
+    fn at(&self, block: u8) -> Option<u32>
+        ensures { result ≡ slice_index_or self.now.blocks block None }
+    {
+        *self.blocks.get(usize::from(block))?
+    }
 }
 
 impl<T: Tariff + Drop> Penalty<T> {
     /// A penalty over `below`, or the first reason against it: the ceiling, then the capacities in block order.
     pub fn new(below: T, station: u8, due: [Option<u32>; BLOCKS]) -> Result<Penalty<T>, Fault>
-        ensures { Checks (penalty_refused (T.Tariff.ceiling_of below) due) (λ p. (p.below ≡ below) × (p.station ≡ station) × (p.due.blocks ≡ due)) result }
+        ensures { Checks (penalty_refused (T.Tariff.ceiling_of below) due)
+            (λ p. (p.below ≡ below) × (p.station ≡ station) × (p.due.blocks ≡ due)) result }
     {
         let ceiling = below.ceiling();
         if ceiling > HIGHEST_BELOW {
@@ -88,26 +99,30 @@ impl<T: Tariff> Penalty<T> {
     }
 
     /// The capacity that should have been declared, if another was.
+    #[tactic(auto, using(crate::specs::PenaltiesLemmas::entry_low))]
     fn capacity_due(&self, query: Query) -> Option<u32>
-        ensures { result ≡ due_capacity self.now.station self.now.due.blocks query }
+        ensures value { result ≡ due_capacity self.now.station self.now.due.blocks query }
+        ensures low { IfSome result (λ kw. kw ≤ STATION_KW) }
     {
         if query.station != self.station {
             return None;
         }
-        *self.due.blocks.get(usize::from(query.block))?
+        self.due.at(query.block)
     }
 }
 
 impl<T: Tariff> Tariff for Penalty<T> {
-    ghost charge_of = { λ t q. penal (T.Tariff.ceiling_of t.below) t.station t.due.blocks (T.Tariff.charge_of t.below) q };
+    ghost charge_of = { λ t. penal (T.Tariff.ceiling_of t.below) t.station t.due.blocks (T.Tariff.charge_of t.below) };
 
     ghost ceiling_of = { λ t. raised (T.Tariff.ceiling_of t.below) t.due.blocks };
 
     ghost code_of = { λ t. T.Tariff.code_of t.below };
 
-    ghost settled = { λ t q. penal_settled (T.Tariff.charge_of t.below) (T.Tariff.settled t.below) _ t.station t.due.blocks q };
+    ghost settled = { λ t. penal_settled (T.Tariff.ceiling_of t.below) (T.Tariff.charge_of t.below)
+        (T.Tariff.settled t.below) t.station t.due.blocks };
 
-    ghost bounded = { λ t q. penal_bounded (T.Tariff.ceiling_of t.below) (T.Tariff.charge_of t.below) (T.Tariff.bounded t.below) t.station t.due.blocks q };
+    ghost bounded = { λ t. penal_bounded (T.Tariff.ceiling_of t.below) (T.Tariff.charge_of t.below)
+        (T.Tariff.bounded t.below) t.station t.due.blocks };
 
     ghost capped = { Prim.search rules };
 
@@ -115,8 +130,8 @@ impl<T: Tariff> Tariff for Penalty<T> {
 
     fn charge(&self, query: Query) -> i64 {
         match self.capacity_due(query) {
-            Some(capacity) if self.applies() => {
-                threefold(sized_charge(&self.below, Query { capacity, ..query }))
+            Some(capacity) if query.is_in_range() && self.applies() => {
+                multiply(sized_charge(&self.below, Query { capacity, ..query }))
             }
             _ => self.below.charge(query),
         }
@@ -124,7 +139,11 @@ impl<T: Tariff> Tariff for Penalty<T> {
 
     fn ceiling(&self) -> u32 {
         let below = self.below.ceiling();
-        if self.applies() { 3 * below } else { below }
+        if self.applies() {
+            PENALTY_FACTOR * below
+        } else {
+            below
+        }
     }
 
     fn code(&self) -> u8 {

@@ -6,7 +6,7 @@ use tariff::query::Query;
 use tariff::tariff::Tariff;
 use units::bits::BitSet;
 
-/// A tariff that charges nothing in the blocks of a grid disturbance.
+/// A tariff that charges nothing in the blocks of a grid disturbance. It changes no charge of a query outside the range.
 #[derive(Clone, Copy)]
 pub struct Waiver<T> {
     below: T,
@@ -23,7 +23,7 @@ impl<T: Tariff> Waiver<T> {
 }
 
 impl<T: Tariff> Tariff for Waiver<T> {
-    ghost charge_of = { λ t q. waived t.disturbed.bits (T.Tariff.charge_of t.below) q };
+    ghost charge_of = { λ t. waived t.disturbed.bits (T.Tariff.charge_of t.below) };
 
     ghost ceiling_of = { λ t. T.Tariff.ceiling_of t.below };
 
@@ -38,7 +38,7 @@ impl<T: Tariff> Tariff for Waiver<T> {
     ghost numbered = { Prim.search rules };
 
     fn charge(&self, query: Query) -> i64 {
-        if self.disturbed.contains(query.block) {
+        if query.is_in_range() && self.disturbed.contains(query.block) {
             0
         } else {
             self.below.charge(query)

@@ -1,5 +1,5 @@
 //! A station in one block.
-ghost use Rattle.std.specs.Prelude.{◌≡◌, ℕ, ◌≤◌, length, slice_index_or};
+ghost use Rattle.std.specs.Prelude.{◌≡◌, ℕ, length, slice_index_or};
 ghost use Rattle.arrayvec.specs.ArrayVec.{array_vec_len};
 ghost use Rattle.posting.specs.Amounts.{amounts_at, BlockSized, no_amounts};
 ghost use Rattle.posting.specs.Days.{FairAt, figures_at, share_at, the_day, weights_at};
@@ -8,6 +8,7 @@ ghost use Rattle.share.specs.Held.{held};
 ghost use Rattle.share.specs.Loads.{loads};
 ghost use Rattle.share.specs.Shares.{shares};
 ghost use Rattle.tariff.specs.Charges.{deviation_of};
+ghost use Rattle.tariff.specs.Ranges.{IsInRange};
 
 use crate::amounts::Amounts;
 use crate::day::Day;
@@ -53,8 +54,7 @@ impl<T: Tariff, K: Key> Day<'_, T, K> {
     /// What the tariff is asked in a block.
     fn query(&self, block: u8, generators: &Generators) -> Query
         ensures value { result ≡ query_of self.now.pages.now.schedules.items self.now.station block (loads generators.now.each.now) }
-        ensures schedule { result.schedule ≤ STATION_KW }
-        ensures actual { result.actual ≤ STATION_KW }
+        ensures in_range { IsInRange result }
     {
         let load = generators.load();
         Query {

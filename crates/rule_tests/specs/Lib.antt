@@ -1,2 +1,3 @@
+pub mod Proportions
 pub mod Square
 pub mod SquareLemmas

@@ -1,3 +1,4 @@
+use crate::proportional::Proportional;
 use posting::account::Account;
 use posting::day::Day;
 use posting::members::Members;
@@ -7,6 +8,7 @@ use posting::place::Place;
 use share::key::UnitsKey;
 use std::test::Fail;
 use tariff::banded::Banded;
+use units::limits::BLOCKS;
 
 const EMPTY: Account = Account {
     installed: 1000,
@@ -16,15 +18,15 @@ const EMPTY: Account = Account {
 
 #[test]
 fn day_of_two(rt: HostRuntime) -> Result<(), Fail> {
-    let mut schedules = [2000; 96];
+    let mut schedules = [2000; BLOCKS];
     schedules[95] = 500;
-    let mut readings = [Some(1000); 192];
+    let mut readings = [Some(1000); 2 * BLOCKS];
     readings[95] = Some(0);
     let mut accounts = [EMPTY; 3];
     accounts[1].installed = 3000;
     let pages = Pages {
         schedules: &schedules,
-        capacities: &[3000; 192],
+        capacities: &[3000; 2 * BLOCKS],
         readings: &readings,
         accounts: &accounts,
     };
@@ -44,11 +46,47 @@ fn day_of_two(rt: HostRuntime) -> Result<(), Fail> {
     Ok(())
 }
 
+/// 300,000 kW are scheduled, and all is delivered but for 20,007 kW too much in block 0 and 50,000 too little in block 95.
+/// The capacity is a twentieth of the largest.
+#[test]
+fn day_in_proportion_to_the_capacity(rt: HostRuntime) -> Result<(), Fail> {
+    let mut readings = [Some(150_000); 2 * BLOCKS];
+    readings[95] = Some(100_000);
+    readings[BLOCKS] = Some(170_007);
+    let mut capacities = [200_000; 2 * BLOCKS];
+    for capacity in &mut capacities[BLOCKS..] {
+        *capacity = 120_000;
+    }
+    let mut accounts = [Account::new(200_000); 2];
+    let day = Day {
+        tariff: &Proportional,
+        key: &UnitsKey,
+        station: 0,
+        members: Members::of(0, 2).ok_or("two generators")?,
+        pages: Pages {
+            schedules: &[300_000; BLOCKS],
+            capacities: &capacities,
+            readings: &readings,
+            accounts: &accounts,
+        },
+    };
+    assert_eq!(rt; day.figures(0).money, 1_000);
+    assert_eq!(rt; day.figures(95).money, 2_500);
+    let sums = day.sums();
+    sums.post(&mut accounts);
+    assert_eq!(rt; sums.charges, 3_500);
+    assert_eq!(rt; accounts[0].money, 1_468);
+    assert_eq!(rt; accounts[0].energy, -10_622);
+    assert_eq!(rt; accounts[1].money, 2_032);
+    assert_eq!(rt; accounts[1].energy, -19_371);
+    Ok(())
+}
+
 #[test]
 fn missing_but_one(rt: HostRuntime) -> Result<(), Fail> {
-    let mut readings = [Some(0); 192];
+    let mut readings = [Some(0); 2 * BLOCKS];
     readings[3] = None;
-    readings[96 + 3] = None;
+    readings[BLOCKS + 3] = None;
     let members = Members::of(0, 2).ok_or("two generators")?;
     let except = Some(Place {
         generator: 0,

@@ -4,7 +4,10 @@
 #[cfg(test)]
 mod days;
 #[cfg(test)]
-mod piles;
+mod layered;
+pub mod proportional;
+#[cfg(test)]
+mod proportions;
 #[cfg(test)]
 mod shares;
 #[cfg(test)]

@@ -1,5 +1,5 @@
 -- The words that the tariffs share.
-use Rattle.std.specs.Prelude.{ℕ, ◌+◌, ◌-◌, ◌/◌, min, List, ℤ, pos, ◌+ℤ◌, ◌-ℤ◌, fold, unsigned_abs}
+use Rattle.std.specs.Prelude.{ℕ, ◌+◌, ◌-◌, ◌/◌, min, ℤ, pos, ◌-ℤ◌, unsigned_abs}
 use Rattle.tariff.specs.declared.query.Query.{Query}
 
 -- The actual power less the scheduled: below zero where the station delivered too little.
@@ -17,7 +17,3 @@ between n low high = min n high - low
 -- n / d, with a half rounded up; d is even.
 abbrev pub nearest : ℕ → ℕ → ℕ
 nearest n d = (n + d / 2) / d
-
--- What some queries come to.
-abbrev pub total : (Query → ℤ) → List Query → ℤ
-total charge queries = fold (λ sum q. sum +ℤ charge q) (pos 0) queries

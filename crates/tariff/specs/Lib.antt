@@ -1,5 +1,7 @@
 pub mod Bands
 pub mod Charges
+pub mod Ranges
+pub mod RangesLemmas
 pub mod Rates
-pub mod Table
 pub mod RatesLemmas
+pub mod Table

@@ -1,7 +1,8 @@
-ghost use Rattle.std.specs.Prelude.{◌≡◌, ◌^◌, ◌<◌};
+ghost use Rattle.std.specs.Prelude.{◌≡◌, ◌*◌, ◌≤◌};
 ghost use Rattle.tariff.specs.Bands.{banded_charge, code_of_bands, edges_of, charge_in_bands};
 ghost use Rattle.tariff.specs.Charges.{between};
 ghost use Rattle.tariff.specs.Table.{Tabled};
+ghost use Rattle.tariff.specs.declared.banded.TheConstants.{BANDED_CEILING};
 ghost use Rattle.std.proofs.Common.{rules};
 
 use crate::query::Query;
@@ -13,6 +14,9 @@ const LOW_RATE: u64 = 50;
 const MIDDLE_RATE: u64 = 100;
 
 const HIGH_RATE: u64 = 150;
+
+/// The ceiling of the banded tariffs: a kW of a block is a quarter of a kWh, at the highest rate, rounded up.
+pub const BANDED_CEILING: u32 = (HIGH_RATE as u32 + 3) / 4;
 
 /// Where the three bands of deviation begin, in percent of the capacity.
 #[derive(Clone, Copy)]
@@ -60,9 +64,9 @@ fn part(amount: u64, low: u64, high: u64) -> u64
 
 /// The charge for an error, in hundredths of a kW: what of it lies in each band, at that band's rate.
 fn in_bands(edges: Edges, capacity: u32, error: u64) -> u64
-    requires { error < 2 ^ 40 }
+    requires { error ≤ 100 * u32.MAX }
     ensures value { result ≡ charge_in_bands edges capacity error }
-    ensures bound { result < 2 ^ 63 }
+    ensures bound { result ≤ error }
 {
     let first = u64::from(edges.first) * u64::from(capacity);
     let second = u64::from(edges.second) * u64::from(capacity);
@@ -77,7 +81,7 @@ fn in_bands(edges: Edges, capacity: u32, error: u64) -> u64
 impl Tariff for Banded {
     ghost charge_of = { banded_charge };
 
-    ghost ceiling_of = { λ _. 38 };
+    ghost ceiling_of = { λ _. BANDED_CEILING };
 
     ghost code_of = { code_of_bands };
 
@@ -94,7 +98,7 @@ impl Tariff for Banded {
     }
 
     fn ceiling(&self) -> u32 {
-        38
+        BANDED_CEILING
     }
 
     fn code(&self) -> u8 {

@@ -1,5 +1,8 @@
-ghost use Rattle.std.specs.Prelude.{◌≡◌, ◌^◌, ◌<◌};
+ghost use Rattle.std.specs.Prelude.{◌≡◌, ◌≤◌};
 ghost use Rattle.tariff.specs.Charges.{deviation_of, magnitude};
+ghost use Rattle.tariff.specs.Ranges.{in_range};
+
+use units::limits::STATION_KW;
 
 /// What a tariff is asked of: one station in one block of the day.
 #[derive(Clone, Copy)]
@@ -27,8 +30,15 @@ impl Query {
     /// The deviation without its sign, in kW.
     pub fn magnitude(self) -> u64
         ensures value { result ≡ magnitude self }
-        ensures bound { result < 2 ^ 32 }
+        ensures bound { result ≤ u32.MAX }
     {
         u64::from(self.actual.abs_diff(self.schedule))
+    }
+
+    /// Whether schedule, actual and capacity are each at most 6,400,000 kW, which is the most that a station can have.
+    pub fn is_in_range(self) -> bool
+        ensures { result ≡ in_range self }
+    {
+        self.schedule <= STATION_KW && self.actual <= STATION_KW && self.capacity <= STATION_KW
     }
 }

@@ -55,7 +55,7 @@ impl Tariff for SingleRate {
 
     ghost settled = { Prim.search rules };
 
-    ghost bounded = { λ t q. rates_bounded t.export t.domestic (deviation_of q) };
+    ghost bounded = { λ t q _. rates_bounded t.export t.domestic (deviation_of q) };
 
     ghost capped = { Prim.search rules };
 

@@ -1,10 +1,13 @@
-ghost use Rattle.std.specs.Prelude.{◌≡◌, ℕ, ◌*◌, ◌^◌, ◌<◌, ◌≤◌, ℤ, pos, unsigned_abs};
+ghost use Rattle.std.specs.Prelude.{◌≡◌, ℕ, ◌*◌, ◌≤◌, ℤ, pos, unsigned_abs};
 ghost use Rattle.tariff.specs.Charges.{magnitude};
+ghost use Rattle.tariff.specs.Ranges.{IsInRange};
 ghost use Rattle.tariff.specs.declared.query.Query.{Query};
+ghost use Rattle.units.specs.declared.limits.TheConstants.{BLOCK_PAISE, HIGHEST_CEILING};
 
 use crate::query::Query;
 
 /// A rule that prices a station's deviation. A query changes nothing, and none is refused.
+/// It promises the size of a charge only for a query in range, which each query of a station's day is.
 pub trait Tariff {
     /// The charge in paise: positive where it is payable, negative where it is receivable.
     ghost charge_of: { Self → Query → ℤ };
@@ -28,30 +31,28 @@ pub trait Tariff {
         ensures { result ≡ code_of self.now };
 
     /// A station that keeps its schedule owes nothing.
-    ghost settled: { (t : Self) (q : Query) → q.actual ≡ q.schedule → charge_of t q ≡ pos 0 };
+    ghost settled: {
+        (t : Self) (q : Query) → IsInRange q → q.actual ≡ q.schedule → charge_of t q ≡ pos 0
+    };
 
     /// No kW of deviation costs or earns more than the ceiling.
-    ghost bounded: { (t : Self) (q : Query) → unsigned_abs (charge_of t q) ≤ ceiling_of t * magnitude q };
+    ghost bounded: {
+        (t : Self) (q : Query) → IsInRange q
+        → unsigned_abs (charge_of t q) ≤ ceiling_of t * magnitude q
+    };
 
     /// A ceiling is at most 10,000 paise.
-    ghost capped: { (t : Self) → ceiling_of t ≤ 10000 };
+    ghost capped: { (t : Self) → ceiling_of t ≤ HIGHEST_CEILING };
 
     /// A code is a number from 1 to 99.
     ghost numbered: { (t : Self) → (1 ≤ code_of t) × (code_of t ≤ 99) };
 }
 
-/// The laws bound every charge, whatever the tariff. There is nothing to run.
-fn laws_bound_the_charge<T: Tariff>(tariff: &T, query: Query)
-    ensures bound { unsigned_abs (T.Tariff.charge_of tariff.now query) ≤ 10000 * magnitude query }
-    ensures small { unsigned_abs (T.Tariff.charge_of tariff.now query) < 2 ^ 46 }
-{}
-
-/// The charge, with what the laws say of its size: sums of thousands of charges fit an `i64`.
+/// The charge, with what the laws say of its size for a query in range: a day's charges fit an `i64`.
 pub fn sized_charge<T: Tariff>(tariff: &T, query: Query) -> i64
     ensures value { result ≡ T.Tariff.charge_of tariff.now query }
-    ensures bound { unsigned_abs result ≤ 10000 * magnitude query }
-    ensures small { unsigned_abs result < 2 ^ 46 }
+    ensures bound { IsInRange query → unsigned_abs result ≤ HIGHEST_CEILING * magnitude query }
+    ensures small { IsInRange query → unsigned_abs result ≤ BLOCK_PAISE }
 {
-    laws_bound_the_charge(tariff, query);
     tariff.charge(query)
 }

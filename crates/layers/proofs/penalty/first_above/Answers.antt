@@ -6,6 +6,7 @@ use Rattle.std.proofs.lemmas.Bool.{cond-true, cond-false}
 use Rattle.std.proofs.lemmas.Iterator.{first_from_find, YieldsList-from_slice}
 use Rattle.std.proofs.lemmas.Iterator.Consumers.{YieldsList-from_copied}
 use Rattle.layers.specs.Penalties.{first_one_above}
+use Rattle.units.specs.declared.limits.TheConstants.{STATION_KW}
 use Rattle.layers.proofs.penalty.first_above.Goals as goal
 
 -- whether the search ends at a capacity, or goes on to those after it
@@ -15,11 +16,11 @@ Above o = (due : List (Option ℕ)) → first_one_above (o ∷ due) ≡ o
 abbrev Passed : Option ℕ → Type 0
 Passed o = (due : List (Option ℕ)) → first_one_above (o ∷ due) ≡ first_one_above due
 
-is_above : (o : Option ℕ) → MatchOption o (true ≡ false) (λ kw. true ≡ ltb 6400000 kw) → Above o
+is_above : (o : Option ℕ) → MatchOption o (true ≡ false) (λ kw. true ≡ ltb STATION_KW kw) → Above o
 is_above (Some kw) h due = cond-true _ _ _ (sym h)
 is_above None h due = absurd cc
 
-is_passed : (o : Option ℕ) → MatchOption o (false ≡ false) (λ kw. false ≡ ltb 6400000 kw) → Passed o
+is_passed : (o : Option ℕ) → MatchOption o (false ≡ false) (λ kw. false ≡ ltb STATION_KW kw) → Passed o
 is_passed (Some kw) h due = cond-false _ _ _ (sym h)
 is_passed None h due = refl
 

@@ -5,15 +5,16 @@ use tariff::banded::Banded;
 use tariff::query::Query;
 use tariff::tariff::Tariff;
 use units::bits::BitSet;
+use units::limits::BLOCKS;
 
 #[test]
 fn waiver_over_penalty_over_bands(rt: HostRuntime) -> Result<(), Fail> {
-    let mut due = [None; 96];
+    let mut due = [None; BLOCKS];
     due[5] = Some(1_000);
     due[6] = Some(1_000);
     let mut disturbed = BitSet::new();
     disturbed.insert(6);
-    let pile = Waiver::new(Penalty::new(Banded::From10, 2, due)?, disturbed);
+    let tariff = Waiver::new(Penalty::new(Banded::From10, 2, due)?, disturbed);
     let query = Query {
         station: 2,
         block: 5,
@@ -21,17 +22,17 @@ fn waiver_over_penalty_over_bands(rt: HostRuntime) -> Result<(), Fail> {
         actual: 1_301,
         capacity: 2_000,
     };
-    assert_eq!(rt; pile.charge(query), 11_364);
-    assert_eq!(rt; pile.charge(Query { block: 6, ..query }), 0);
-    assert_eq!(rt; pile.charge(Query { block: 7, ..query }), 1_263);
+    assert_eq!(rt; tariff.charge(query), 11_364);
+    assert_eq!(rt; tariff.charge(Query { block: 6, ..query }), 0);
+    assert_eq!(rt; tariff.charge(Query { block: 7, ..query }), 1_263);
     assert_eq!(rt;
-        pile.charge(Query {
+        tariff.charge(Query {
             station: 3,
             ..query
         }),
         1_263
     );
-    assert_eq!(rt; pile.ceiling(), 114);
-    assert_eq!(rt; pile.code(), 10);
+    assert_eq!(rt; tariff.ceiling(), 114);
+    assert_eq!(rt; tariff.code(), 10);
     Ok(())
 }
