@@ -9,7 +9,7 @@ use Rattle.std.proofs.lemmas.Simd.{map-map}
 use Rattle.units.specs.declared.fault.Fault.{Fault}
 use Rattle.units.specs.declared.fault.Fault.TheVariants.{UnknownHead}
 use Rattle.grammar.specs.Calls.{Misfit, value}
-use Rattle.units.specs.Calls.{Value, IsCallOf, fitted, opening_said, spoken, with_values}
+use Rattle.units.specs.Calls.{Value, IsCallOf, fitted, opening_said, padded, spoken, with_values}
 use Rattle.units.specs.Heads.{calls, openings, sorts, name}
 use Rattle.units.specs.declared.call.Call.{Call}
 use Rattle.units.specs.declared.call.Opening.{Opening}
@@ -22,26 +22,30 @@ use Rattle.tokens.specs.Tokens.{arg_of}
 use Rattle.lines.specs.Arguments.{call_values, part_sort, values_of}
 use Rattle.lines.specs.Forms.{Found, Fits, Tells, Fitting}
 use Rattle.lines.specs.declared.form.Parts.{Parts}
-use Rattle.lines.proofs.Taking.{few_sorts, fits, how_many, sorts_of_values, spells}
+use Rattle.lines.specs.declared.form.TheConstants.{MOST_GATHERED}
+use Rattle.units.specs.declared.call.TheConstants.{MOST_ARGUMENTS}
+use Rattle.tokens.specs.declared.token.Part.{Part}
+use Rattle.grammar.specs.Laws.{value_sort}
+use Rattle.lines.proofs.Taking.{enough, few_sorts, fits, how_many, sorts_of_values, spells}
 
--- the first five sorts tell as much as all
-cut_misfit : (have want : List Sort) (p : ℕ) → length want ≤ 4 → Misfit (take 5 have) want p → Misfit have want p
+-- the first sorts tell as much as all
+cut_misfit : (have want : List Sort) (p : ℕ) → length want ≤ MOST_ARGUMENTS → Misfit (take MOST_GATHERED have) want p → Misfit have want p
 cut_misfit have want p few m =
-    let low : p - 1 ≤ min (length (take 5 have)) (length want) = m.within in
-    let long : length (take 5 have) ≡ min 5 (length have) = length-take 5 have in
+    let low : p - 1 ≤ min (length (take MOST_GATHERED have)) (length want) = m.within in
+    let long : length (take MOST_GATHERED have) ≡ min MOST_GATHERED (length have) = length-take MOST_GATHERED have in
     record {
       counted = m.counted;
-      before = sym (take-take (p - 1) 5 have (omega arith)) ∙ m.before;
+      before = sym (take-take (p - 1) MOST_GATHERED have (omega arith)) ∙ m.before;
       within = omega arith;
-      here = λ e. m.here (take-take p 5 have (omega (arith, m.counted)) ∙ e);
+      here = λ e. m.here (take-take p MOST_GATHERED have (omega (arith, m.counted)) ∙ e);
     }
 
-cut_fit : (have want : List Sort) → length want ≤ 4 → take 5 have ≡ want → have ≡ want
-cut_fit have want few e = sym (take_all 5 have (omega (arith, length-take 5 have, ap length e))) ∙ e
+cut_fit : (have want : List Sort) → length want ≤ MOST_ARGUMENTS → take MOST_GATHERED have ≡ want → have ≡ want
+cut_fit have want few e = sym (take_all MOST_GATHERED have (omega (arith, length-take MOST_GATHERED have, ap length e))) ∙ e
 
 -- the sorts of the arguments that are kept
-kept_sorts : (line : List ℕ) (parts : Parts) (q : Found line parts) → map part_sort parts.args.items ≡ take 5 (map arg_sort q.form.args)
-kept_sorts line parts q = sym (map-map arg_sort arg_of parts.args.items) ∙ ap (map arg_sort) q.kept ∙ sym (take-map arg_sort 5 q.form.args)
+kept_sorts : (line : List ℕ) (parts : Parts) (q : Found line parts) → map part_sort parts.args.items ≡ take MOST_GATHERED (map arg_sort q.form.args)
+kept_sorts line parts q = sym (map-map arg_sort arg_of parts.args.items) ∙ ap (map arg_sort) q.kept ∙ sym (take-map arg_sort MOST_GATHERED q.form.args)
 
 -- the head that a word spells, if it is wanted
 pub headed : {heads : Head → Bool} {line : List ℕ} {parts : Parts} {gives : Head → Bool → Type 0} {o : Result Head Fault} (r s : Option Head) (q : Found line parts) → Tells gives heads → MatchOption r ((h : Head) → parts.letters.now ≢ name h) (λ h. parts.letters.now ≡ name h) → MatchOption r (s ≡ None) (λ h. (b : Bool) × gives h b × (s ≡ then_some b h)) → o ≡ ok_or s UnknownHead → MatchResult o (Heads heads q.form) (Refused heads line)
@@ -63,11 +67,12 @@ pub fitting : {heads : Head → Bool} {line : List ℕ} {parts : Parts} {h : Hea
 fitting {line = line} {parts = parts} {h = h} q k m =
     let f : Form = q.form in
     let same : map arg_sort f.args ≡ sorts h = cut_fit _ (sorts h) (few_sorts h) (sym (kept_sorts line parts q) ∙ m) in
-    let whole : map arg_of parts.args.items ≡ f.args = q.kept ∙ take_all 5 f.args (omega (arith, how_many f.args (sorts h) same, few_sorts h)) in
+    let whole : map arg_of parts.args.items ≡ f.args = q.kept ∙ take_all MOST_GATHERED f.args (omega (arith, how_many f.args (sorts h) same, few_sorts h)) in
     let s = spells f.args q.is.sound.args in
     let vs : fitted (sorts h) (map value f.args) 0 ≡ map value f.args = fits (sorts h) (map value f.args) (sorts_of_values f.args ∙ same) in
     record {
       taken = k.taken;
+      fits = m;
       accepted = subst (λ xs. Accepted line (spoken (with_values h (map value xs)))) (sym whole) (subst (λ l. Accepted line (record { head = name h; values = l })) (sym vs) (record {
         short = q.is.short;
         held = s.held;
@@ -75,15 +80,13 @@ fitting {line = line} {parts = parts} {h = h} q k m =
       }));
     }
 
--- of four values a call takes those that may be lists from the last place alone
-enough : (h : Head) (vs : List Value) → calls h ≡ true → with_values h (call_values vs) ≡ with_values h vs
-enough head.Open vs e = absurd cc
-enough _ vs e = refl
+values_sorts : (ps : List Part) → map value_sort (values_of ps) ≡ map part_sort ps
+values_sorts ps = sorts_of_values (map arg_of ps) ∙ map-map arg_sort arg_of ps
 
-pub called : {line : List ℕ} {parts : Parts} {h k : Head} {vs : List Value} {r : Result Call Fault} (o : Option Call) → Fitting calls line h parts → k ≡ h → vs ≡ call_values (values_of parts.args.items) → IsCallOf k vs o → r ≡ ok_or o UnknownHead → ReadsCall line r
+pub called : {line : List ℕ} {parts : Parts} {h k : Head} {vs : List Value} {r : Result Call Fault} (o : Option Call) → Fitting calls line h parts → k ≡ h → vs ≡ padded MOST_ARGUMENTS (call_values (values_of parts.args.items)) → IsCallOf k vs o → r ≡ ok_or o UnknownHead → ReadsCall line r
 called None f same e none is = absurd (both_ways _ (not_from_true _ none) (ap calls same ∙ f.taken))
 called {line = line} {parts = parts} {h = h} (Some c) f same e made is =
-    rw is (subst (λ s. Accepted line (spoken s)) (sym (made.1 ∙ (λ i. with_values (same i) (e i)) ∙ enough h (values_of parts.args.items) f.taken)) f.accepted)
+    rw is (subst (λ s. Accepted line (spoken s)) (sym (made.1 ∙ (λ i. with_values (same i) (e i)) ∙ enough h (values_of parts.args.items) f.taken (values_sorts parts.args.items ∙ f.fits))) f.accepted)
 
 pub opened : {line : List ℕ} {parts : Parts} {h : Head} (o : Opening) → Fitting openings line h parts → opening_said o ≡ with_values head.Open (values_of parts.args.items) → ReadsOpening line (Ok o)
 opened {line = line} {parts = parts} {h = h} o f made =

@@ -1,15 +1,19 @@
 -- The values of arguments spell them.
-use Rattle.std.proofs.Common.{◌≡◌, ℕ, zero, suc, ◌+◌, ◌<◌, ◌≤◌, List, [], ◌∷◌, map, length, get_or, drop, decimal, sym, refl, ap, ◌∙◌, subst, add-zero, arith}
+use Rattle.std.proofs.Common.{◌≡◌, ℕ, zero, suc, ◌+◌, ◌<◌, ◌≤◌, true, List, [], ◌∷◌, map, length, get_or, drop, decimal, sym, refl, ap, ◌∙◌, subst, add-zero, one-add, arith}
 use lib.ListN.{length-map}
-use Rattle.std.specs.List.{AllByRecursion}
+use Rattle.std.specs.List.{AllByRecursion, position_or_len}
 use Rattle.grammar.specs.Calls.{argument, Held, Small, read_on, pieces, value}
 use Rattle.grammar.specs.Grammar.{Numeral, Numbers, spaced, Arg, number, list, SoundArg}
 use Rattle.grammar.specs.Laws.{value_sort}
 use Rattle.grammar.specs.Reads.{arg_sort}
 use Rattle.grammar.proofs.Canon.{pieces_spaced}
 use Rattle.lines.proofs.Figures.{small_value, written_back}
-use Rattle.units.specs.Calls.{Value, one, many, as_sort, fitted}
-use Rattle.units.specs.Heads.{sorts}
+use Rattle.lines.specs.Arguments.{call_values, first_list, is_list, said_at, values_of, with_list}
+use Rattle.tokens.specs.declared.token.Part.{Part}
+use Rattle.tokens.specs.declared.token.Part.TheVariants.{Word as Lettered, Number as Figures, List as Listed}
+use Rattle.units.specs.Calls.{Value, one, many, as_sort, fitted, list_in, padded, says, with_values}
+use Rattle.units.specs.Heads.{calls, sorts}
+use Rattle.units.specs.declared.call.TheConstants.{MOST_ARGUMENTS}
 use Rattle.units.specs.declared.head.Head.{Head}
 use Rattle.units.specs.declared.head.Head.TheVariants as head
 use Rattle.units.specs.declared.head.Sort.{Sort}
@@ -86,10 +90,48 @@ sorts_of_values [] = refl
 sorts_of_values (number ds ∷ xs) = ap (λ l. Single ∷ l) (sorts_of_values xs)
 sorts_of_values (list bs ∷ xs) = ap (λ l. Several ∷ l) (sorts_of_values xs)
 
--- no head takes more than four arguments
-pub few_sorts : (h : Head) → length (sorts h) ≤ 4
+-- no head takes more arguments than there are places
+pub few_sorts : (h : Head) → length (sorts h) ≤ MOST_ARGUMENTS
 few_sorts head.Open = omega arith
 few_sorts _ = omega arith
+
+-- no call has more than one list
+
+abbrev lists : List Sort → ℕ
+lists [] = 0
+lists (Single ∷ ss) = lists ss
+lists (Several ∷ ss) = suc (lists ss)
+
+one_list : (h : Head) → calls h ≡ true → lists (sorts h) ≤ 1
+one_list head.Open e = absurd cc
+one_list _ e = omega arith
+
+-- so the first list is the only one
+
+without_lists : (ns : List ℕ) (vs : List Value) → lists (map value_sort vs) ≡ 0 → map (with_list ns) vs ≡ vs
+without_lists ns [] e = refl
+without_lists ns (one n ∷ vs) e = ap (λ l. one n ∷ l) (without_lists ns vs e)
+without_lists ns (many ms ∷ vs) e = absurd (omega arith)
+
+with_one_list : (vs : List Value) → lists (map value_sort vs) ≤ 1 → call_values vs ≡ vs
+with_one_list [] h = refl
+with_one_list (one n ∷ vs) h = ap (λ l. one n ∷ l) (with_one_list vs h)
+with_one_list (many ns ∷ vs) h = ap (λ l. many ns ∷ l) (without_lists ns vs (omega arith))
+
+padded_at : (n : ℕ) (vs : List Value) (k : ℕ) → k < n → get_or (padded n vs) k (one 0) ≡ get_or vs k (one 0)
+padded_at zero vs k h = absurd (omega arith)
+padded_at (suc n) [] zero h = refl
+padded_at (suc n) [] (suc k) h = padded_at n [] k (omega arith)
+padded_at (suc n) (v ∷ vs) zero h = refl
+padded_at (suc n) (v ∷ vs) (suc k) h = padded_at n vs k (omega arith)
+
+-- a call has room for all of its arguments
+pub enough : (h : Head) (vs : List Value) → calls h ≡ true → map value_sort vs ≡ sorts h → with_values h (padded MOST_ARGUMENTS (call_values vs)) ≡ with_values h vs
+enough h vs c e =
+    let same : call_values vs ≡ vs = with_one_list vs (subst (λ ss. lists ss ≤ 1) (sym e) (one_list h c)) in
+    let few : length vs ≤ MOST_ARGUMENTS = omega (arith, few_sorts h, ap length e, length-map vs value_sort) in
+    let cut : fitted (sorts h) (padded MOST_ARGUMENTS vs) 0 ≡ vs = fits_from (sorts h) (padded MOST_ARGUMENTS vs) vs 0 (λ k lt. let same : 0 + k ≡ k = omega arith in ap (λ j. get_or (padded MOST_ARGUMENTS vs) j (one 0)) same ∙ padded_at MOST_ARGUMENTS vs k (omega arith)) e in
+    ap (λ l. with_values h (padded MOST_ARGUMENTS l)) same ∙ ap (says h) (cut ∙ sym (fits (sorts h) vs e))
 
 pub how_many : (xs : List Arg) (ss : List Sort) → map arg_sort xs ≡ ss → length xs ≡ length ss
 how_many xs ss e = sym (length-map xs arg_sort) ∙ ap length e
@@ -99,3 +141,17 @@ pub value_at : (xs : List Arg) (i : ℕ) → value (get_or xs i (number [])) ≡
 value_at [] i = refl
 value_at (x ∷ xs) zero = refl
 value_at (x ∷ xs) (suc i) = value_at xs i
+
+-- where the first list is
+
+pub first_list_at : (ps : List Part) → first_list (values_of ps) ≡ list_in (said_at ps (position_or_len is_list ps))
+first_list_at [] = refl
+first_list_at (Lettered letters ∷ ps) = rw one-add (first_list_at ps)
+first_list_at (Figures digits ∷ ps) = rw one-add (first_list_at ps)
+first_list_at (Listed numbers ∷ ps) = refl
+
+pub no_list : (ps : List Part) → length ps ≤ position_or_len is_list ps → first_list (values_of ps) ≡ []
+no_list [] h = refl
+no_list (Lettered letters ∷ ps) h = no_list ps (omega arith)
+no_list (Figures digits ∷ ps) h = no_list ps (omega arith)
+no_list (Listed numbers ∷ ps) h = absurd (omega arith)

@@ -9,6 +9,7 @@ use Rattle.grammar.specs.Reads.{no_form}
 use Rattle.grammar.proofs.Reading.{reads_form, not_form_lem}
 use Rattle.lines.specs.Forms.{Found, ReadsForm}
 use Rattle.lines.specs.declared.form.Parts.{Parts}
+use Rattle.lines.specs.declared.form.TheConstants.{MOST_GATHERED}
 use Rattle.tokens.specs.Pieces.{At, First, Next, More}
 use Rattle.tokens.specs.Tokens.{arg_of, SoundPart}
 use Rattle.tokens.specs.declared.token.Part.{Part}
@@ -34,11 +35,11 @@ next_refused line bs rest w xs e h o k = refused line k.0 e h k.1 (o ∙ k.2 (re
 read_on_lem : (line bs rest w : List ℕ) (xs : List Arg) (t : Token) → Reached line w xs bs → More line bs t rest → Reached line w (xs ++ arg_of t.part ∷ []) rest
 read_on_lem line bs rest w xs t o k = o ∙ k.leads (record { head = w; args = xs })
 
--- the arguments so far: how many, and the first five
+-- the arguments so far: how many, and the first
 pub record Gathered (line w : List ℕ) (parts : List Part) (count : ℕ) (rest : List ℕ) : Type 0 where
   pub args : List Arg
   pub counted : count ≡ length args
-  pub kept : map arg_of parts ≡ take 5 args
+  pub kept : map arg_of parts ≡ take MOST_GATHERED args
   pub sound : All SoundPart parts
   pub reached : Reached line w args rest
 
@@ -47,14 +48,14 @@ take_again zero xs ys = refl
 take_again (suc n) [] ys = refl
 take_again (suc n) (x ∷ xs) ys = ap (λ l. x ∷ l) (take_again n xs ys)
 
-pub gather : {line bs rest w : List ℕ} {old new : List Part} {count : ℕ} {t : Token} → Gathered line w old count bs → More line bs t rest → new ≡ take 5 (old ++ t.part ∷ []) → Gathered line w new (count + 1) rest
+pub gather : {line bs rest w : List ℕ} {old new : List Part} {count : ℕ} {t : Token} → Gathered line w old count bs → More line bs t rest → new ≡ take MOST_GATHERED (old ++ t.part ∷ []) → Gathered line w new (count + 1) rest
 gather {line} {bs} {rest} {w} {old} {new} {count} {t} g m is =
-    let more : map arg_of (old ++ t.part ∷ []) ≡ take 5 g.args ++ arg_of t.part ∷ [] = map_push arg_of old t.part ∙ ap (λ l. l ++ arg_of t.part ∷ []) g.kept in
+    let more : map arg_of (old ++ t.part ∷ []) ≡ take MOST_GATHERED g.args ++ arg_of t.part ∷ [] = map_push arg_of old t.part ∙ ap (λ l. l ++ arg_of t.part ∷ []) g.kept in
     record {
       args = g.args ++ arg_of t.part ∷ [];
       counted = simp length_push (omega (arith, g.counted));
-      kept = ap (map arg_of) is ∙ sym (take-map arg_of 5 (old ++ t.part ∷ [])) ∙ ap (take 5) more ∙ take_again 5 g.args (arg_of t.part ∷ []);
-      sound = subst (All SoundPart) (sym is) (All-take SoundPart 5 _ (All-push SoundPart old t.part g.sound m.sound));
+      kept = ap (map arg_of) is ∙ sym (take-map arg_of MOST_GATHERED (old ++ t.part ∷ [])) ∙ ap (take MOST_GATHERED) more ∙ take_again MOST_GATHERED g.args (arg_of t.part ∷ []);
+      sound = subst (All SoundPart) (sym is) (All-take SoundPart MOST_GATHERED _ (All-push SoundPart old t.part g.sound m.sound));
       reached = read_on_lem line bs rest w g.args t g.reached m;
     }
 

@@ -8,17 +8,19 @@ use Rattle.units.specs.declared.head.Sort.{Sort}
 use Rattle.units.specs.declared.fault.Fault.{Fault}
 use Rattle.units.specs.declared.fault.Fault.TheVariants.{BadArgument}
 use Rattle.tokens.specs.Tokens.{arg_of}
-use Rattle.lines.specs.Arguments.{values_of}
+use Rattle.lines.specs.Arguments.{part_sort, values_of}
 use Rattle.units.specs.Calls.{spoken, with_values}
+use Rattle.units.specs.Heads.{sorts}
 use Rattle.lines.specs.declared.form.Parts.{Parts}
+use Rattle.lines.specs.declared.form.TheConstants.{MOST_GATHERED}
 
--- the line is a form with this word, so many arguments, and these as the first five
+-- the line is a form with this word, so many arguments, and these as the first
 pub record Found (line : List ℕ) (parts : Parts) : Type 0 where
   pub form : Form
   pub is : Is line form
   pub named : parts.letters.now ≡ form.head
   pub counted : parts.count ≡ length form.args
-  pub kept : map arg_of parts.args.items ≡ take 5 form.args
+  pub kept : map arg_of parts.args.items ≡ take MOST_GATHERED form.args
 
 -- The form that is the line; or, where it is too long or no form, a refusal that does not depend on
 -- which heads are wanted.
@@ -36,7 +38,8 @@ Fits have want (Err e) = (p : ℕ) × Misfit have want p × (e ≡ BadArgument p
 abbrev pub Tells : (Head → Bool → Type 0) → (Head → Bool) → Type 0
 Tells gives heads = (h : Head) (b : Bool) → gives h b → b ≡ heads h
 
--- The head is wanted, and the line is what it asks for with the arguments of these parts.
+-- The head is wanted, the arguments of these parts fit it, and the line is what it asks for with them.
 pub record Fitting (wanted : Head → Bool) (line : List ℕ) (h : Head) (parts : Parts) : Type 0 where
   pub taken : wanted h ≡ true
+  pub fits : map part_sort parts.args.items ≡ sorts h
   pub accepted : Accepted line (spoken (with_values h (values_of parts.args.items)))

@@ -11,6 +11,7 @@ use arrayvec::ArrayVec;
 use grammar::line::LONGEST_LINE;
 pub use reads::read_form;
 use tokens::token::Part;
+use units::call::MOST_ARGUMENTS;
 use units::fault::Fault;
 use units::head::Head;
 
@@ -18,14 +19,14 @@ use units::head::Head;
 pub const MOST_BYTES: usize = LONGEST_LINE;
 
 /// How many arguments are kept: one more than any head takes, so that a surplus one shows.
-pub const MOST_GATHERED: usize = 5;
+pub const MOST_GATHERED: usize = MOST_ARGUMENTS + 1;
 
 /// A line that is a form.
 #[derive(Drop)]
 pub struct Parts<'a> {
     /// The letters of its word.
     pub letters: &'a [u8],
-    /// The first five arguments, as a form holds them.
+    /// The first `MOST_GATHERED` arguments, as a form holds them.
     pub args: ArrayVec<Part<'a>, MOST_GATHERED>,
     /// How many arguments there are, with those that are not kept.
     pub count: usize,

@@ -1,17 +1,18 @@
 //! What the arguments of a form say.
 ghost use Rattle.std.specs.Prelude.{◌≡◌, ◌≤◌, [], map, length};
 ghost use Rattle.std.specs.List.{All};
-ghost use Rattle.units.specs.Calls.{list_in, number_in, opening_said, value_of, with_values};
+ghost use Rattle.units.specs.Calls.{list_in, number_in, opening_said, padded, value_of, with_values};
 ghost use Rattle.units.specs.declared.head.Head.TheVariants.{Open};
 ghost use Rattle.grammar.specs.Calls.{read_on, pieces};
 ghost use Rattle.grammar.specs.Grammar.{Numeral};
-ghost use Rattle.lines.specs.Arguments.{call_values, said_at, values_of};
+ghost use Rattle.lines.specs.Arguments.{call_values, first_list, is_list, said_at, values_of, with_list};
 
 use super::form::Parts;
 use super::lists::{Lists, Room};
 use arrayvec::ArrayVec;
+use std::array;
 use tokens::token::Part;
-use units::call::{self, Opening, Value};
+use units::call::{self, MOST_ARGUMENTS, Opening, Value};
 use units::head::Head;
 
 /// The number that the digits write.
@@ -32,6 +33,12 @@ fn values<'r>(numbers: &[u8], room: &'r mut Room) -> &'r [u64]
     // There is room for all of them.
     let _added = values.extend(numbers.split(|b| *b == b' ').map(value));
     values.as_slice()
+}
+
+fn is_list(part: Part) -> bool
+    ensures { result ≡ is_list part.entry }
+{
+    matches!(part, Part::List(_))
 }
 
 impl Parts<'_> {
@@ -55,30 +62,37 @@ impl Parts<'_> {
         }
     }
 
-    /// What the argument at this place says, with the numbers of a list in this room: 0 where there is none.
-    fn value<'r>(&self, place: usize, room: &'r mut Room) -> Value<'r>
-        ensures { value_of result ≡ said_at self.now.args.items place }
+    /// The numbers of the first list among the arguments, in this room: none where there is no list.
+    fn first_list<'r>(&self, room: &'r mut Room) -> &'r [u64]
+        ensures { result.now ≡ first_list (values_of self.now.args.items) }
+    {
+        match self.args.iter().position(|part| is_list(*part)) {
+            Some(place) => self.list(place, room),
+            None => &[],
+        }
+    }
+
+    /// What the argument at this place says, with these numbers if it is a list: 0 where there is none.
+    fn value<'r>(&self, place: usize, list: &'r [u64]) -> Value<'r>
+        ensures { value_of result ≡ with_list list.now (said_at self.now.args.items place) }
     {
         match self.args.get(place) {
-            Some(Part::List(_)) => Value::List(self.list(place, room)),
+            Some(Part::List(_)) => Value::List(list),
             _ => Value::Number(self.number(place)),
         }
     }
 
-    /// The head of a call with what its arguments say. Only the last of four may be a list.
+    /// The head of a call with what its arguments say. The room is the first list's: no call has a second one.
     #[tactic(auto, using(crate::proofs::Taking::value_at))]
     pub(crate) fn call<'r>(&self, head: Head, room: &'r mut Room) -> call::Parts<'r>
         ensures head { result.head ≡ head }
-        ensures values { map value_of result.values ≡ call_values (values_of self.now.args.items) }
+        ensures values { map value_of result.values
+            ≡ padded MOST_ARGUMENTS (call_values (values_of self.now.args.items)) }
     {
+        let list = self.first_list(room);
         call::Parts {
             head,
-            values: [
-                Value::Number(self.number(0)),
-                Value::Number(self.number(1)),
-                Value::Number(self.number(2)),
-                self.value(3, room),
-            ],
+            values: array::from_fn(|place| self.value(place, list)),
         }
     }
 

@@ -5,6 +5,7 @@ use Rattle.std.proofs.lemmas.Bool.Decides.{nat_tests}
 use Rattle.std.proofs.lemmas.List.Sums.{sum_by-cons}
 use Rattle.grammar.proofs.Exactly.{name_word}
 use Rattle.units.specs.Heads.{name}
+use Rattle.units.specs.declared.call.TheConstants.{MOST_ARGUMENTS}
 use Rattle.units.specs.declared.head.Head.{Head}
 use Rattle.spell.specs.Causes.{misfit}
 use Rattle.spell.specs.Words.{held_word, room, rooms, line_room}
@@ -41,5 +42,5 @@ held_rooms ws e = each ws (all_fit held_word ws e)
     each [] h = omega arith
     each (w ∷ ws) h = grind (arith, sum_by-cons (λ w. 1 + room w) w ws, held_room w, each ws)
 
-pub line_has_room : (h : Head) (ws : List Word) → length ws ≤ 4 → misfit held_word ws ≡ None → line_room (name h) ws ≤ 2 ^ 32
+pub line_has_room : (h : Head) (ws : List Word) → length ws ≤ MOST_ARGUMENTS → misfit held_word ws ≡ None → line_room (name h) ws ≤ 2 ^ 32
 line_has_room h ws few e = omega (arith, held_rooms ws e, (name_word h).2)

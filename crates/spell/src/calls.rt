@@ -12,7 +12,7 @@ use crate::page::long_enough;
 use crate::words::Word;
 use crate::writer::Writer;
 pub use grammar::line::LONGEST_LINE;
-use units::call::{Call, Opening, Parts};
+use units::call::{Call, MOST_ARGUMENTS, Opening, Parts};
 use units::fault::Fault;
 use units::head::Head;
 
@@ -32,7 +32,7 @@ fn line(page: &mut [u8], head: Head, words: &[Word]) -> usize
 /// Writes the head and its words as a line.
 #[tactic(auto, using(crate::proofs::Holding::line_has_room, crate::proofs::Laying::onto_page), unfolding(crate::specs::Spelling::spelling_of))]
 fn spell(head: Head, words: &[Word], page: &mut [u8]) -> Result<usize, Fault>
-    requires { length words.now ≤ 4 }
+    requires { length words.now ≤ MOST_ARGUMENTS }
     ensures { wrote result page.new ≡ spelling_of (misfit held_word words.now) (line_text (name head) words.now) page.old }
 {
     long_enough(page, LINE_PAGE)?;

@@ -2,7 +2,7 @@
 ghost use Rattle.std.specs.Prelude.{◌≡◌, map};
 ghost use Rattle.spell.specs.Spoken.{word_of};
 
-use units::call::Value;
+use units::call::{MOST_ARGUMENTS, Value};
 
 /// A word of a line.
 #[derive(Clone, Copy, Debug)]
@@ -24,7 +24,7 @@ impl<'a> Word<'a> {
     }
 
     /// The words of arguments.
-    pub fn all_of(values: [Value<'a>; 4]) -> [Word<'a>; 4]
+    pub fn all_of(values: [Value<'a>; MOST_ARGUMENTS]) -> [Word<'a>; MOST_ARGUMENTS]
         ensures { result ≡ map word_of values.entry }
     {
         values.map(Word::of)

@@ -1,5 +1,5 @@
 -- A call as a head and the values of its arguments.
-use Rattle.std.specs.Prelude.{◌≡◌, ℕ, ◌+◌, List, [], ◌∷◌, map, length, take, slice_index_or, true, Some, None, Option}
+use Rattle.std.specs.Prelude.{◌≡◌, ℕ, zero, suc, ◌+◌, List, [], ◌∷◌, map, length, take, slice_index_or, true, Some, None, Option}
 use Rattle.units.specs.Heads.{name, calls, openings, sorts}
 use Rattle.units.specs.declared.call.Call.{Call}
 use Rattle.units.specs.declared.call.Call.TheVariants as call
@@ -88,9 +88,11 @@ abbrev pub IsCallOf : Head → List Value → Option Call → Type 0
 IsCallOf h vs None = openings h ≡ true
 IsCallOf h vs (Some c) = (calls h ≡ true) × (said c ≡ with_values h vs)
 
--- as many values as fill a call's parts, with 0 where there is none
-abbrev pub four : List Value → List Value
-four vs = slice_index_or vs 0 (one 0) ∷ slice_index_or vs 1 (one 0) ∷ slice_index_or vs 2 (one 0) ∷ slice_index_or vs 3 (one 0) ∷ []
+-- the first n of these values, and 0 behind them where they are fewer
+abbrev pub padded : ℕ → List Value → List Value
+padded zero vs = []
+padded (suc n) [] = one 0 ∷ padded n []
+padded (suc n) (v ∷ vs) = v ∷ padded n vs
 
 -- what parts say: their head, and as many of their values as it takes
 abbrev pub parts_said : Parts → Said

@@ -1,10 +1,14 @@
 //! The calls that a book takes, as values, and their heads and arguments.
 ghost use Rattle.std.specs.Prelude.{◌≡◌, map, length, take, slice_index_or, IsSomeAnd};
 ghost use Rattle.units.specs.Heads.{sorts};
-ghost use Rattle.units.specs.Calls.{four, list_in, number_in, one, value_of};
+ghost use Rattle.units.specs.Calls.{list_in, number_in, one, padded, value_of};
 ghost use Rattle.units.specs.Calls.{opening_said, parts_said, said, IsCallOf};
 
 use crate::head::{Head, each_call};
+use std::array;
+
+/// The most arguments that a head takes.
+pub const MOST_ARGUMENTS: usize = 5;
 
 /// What opens a book: a kind and a number of generators for each station, and each generator's installed power.
 #[derive(Clone, Copy, Debug)]
@@ -108,7 +112,7 @@ impl<'a> Value<'a> {
 #[derive(Clone, Copy, Debug)]
 pub struct Parts<'a> {
     pub head: Head,
-    pub values: [Value<'a>; 4],
+    pub values: [Value<'a>; MOST_ARGUMENTS],
 }
 
 /// The parts of a call.
@@ -177,16 +181,11 @@ fn place<'a>(values: &[Value<'a>], i: usize) -> Value<'a>
 /// A head with these arguments.
 fn told<'a>(head: Head, values: &[Value<'a>]) -> Parts<'a>
     ensures head { result.head ≡ head }
-    ensures values { map value_of result.values ≡ four (map value_of values.now) }
+    ensures values { map value_of result.values ≡ padded MOST_ARGUMENTS (map value_of values.now) }
 {
     Parts {
         head,
-        values: [
-            place(values, 0),
-            place(values, 1),
-            place(values, 2),
-            place(values, 3),
-        ],
+        values: array::from_fn(|i| place(values, i)),
     }
 }
 
@@ -195,15 +194,14 @@ impl<'a> Opening<'a> {
     pub fn parts(self) -> Parts<'a>
         ensures { parts_said result ≡ opening_said self.entry }
     {
-        Parts {
-            head: Head::Open,
-            values: [
+        told(
+            Head::Open,
+            &[
                 Value::List(self.kinds),
                 Value::List(self.counts),
                 Value::List(self.installed),
-                Value::Number(0),
             ],
-        }
+        )
     }
 }
 

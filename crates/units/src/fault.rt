@@ -1,5 +1,5 @@
 //! Why a call is refused.
-ghost use Rattle.units.specs.Faults.{refusal_of, refusal_text};
+ghost use Rattle.units.specs.Faults.{page_number, refusal_of, refusal_text};
 ghost use Rattle.std.specs.Prelude.{◌≡◌, Some};
 ghost use Rattle.units.specs.declared.fault.Fault.TheVariants.{NoMemory};
 
@@ -15,6 +15,15 @@ pub enum Page {
     Capacities = 2,
     Readings = 3,
     Accounts = 4,
+}
+
+impl Page {
+    /// The number by which a refusal names it.
+    pub const fn number(self) -> u64
+        ensures { result ≡ page_number self }
+    {
+        self as u64
+    }
 }
 
 /// A cause of refusal, with what the answer says of it. Its text tells a person what is wrong.
@@ -144,7 +153,7 @@ impl Fault {
             Fault::BadStation { station } => refusal_at(0, 2, station, 0),
             Fault::InstalledCount { given, needed } => refusal_at(0, 3, given, needed),
             Fault::InstalledRange { generator, kw } => refusal_at(0, 4, generator, kw),
-            Fault::ShortPage { page, needed } => refusal_at(0, 5, page as u64, needed),
+            Fault::ShortPage { page, needed } => refusal_at(0, 5, page.number(), needed),
             Fault::HighRate { rate } => refusal_at(0, 23, rate, 0),
             Fault::BadPenalty { value } => refusal_at(0, 24, value, 0),
             Fault::ShortOutput { length } => refusal_at(1, 6, length, 0),
@@ -153,7 +162,7 @@ impl Fault {
             Fault::UnknownHead => refusal_at(1, 9, 0, 0),
             Fault::BadArgument { position } => refusal_at(1, 10, position, 0),
             Fault::NoSuchNumber { number } => refusal_at(2, 11, number, 0),
-            Fault::WrongPhase { station, phase } => refusal_at(2, 12, station, phase as u64),
+            Fault::WrongPhase { station, phase } => refusal_at(2, 12, station, phase.number()),
             Fault::BadBlocks { from, to } => refusal_at(2, 13, from, to),
             Fault::BadNotice { notice } => refusal_at(2, 13, notice, 0),
             Fault::ValueCount { given, needed } => refusal_at(2, 14, given, needed),

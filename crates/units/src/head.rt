@@ -1,6 +1,5 @@
 //! The heads of lines, with their letters and the sorts of their arguments.
 ghost use Rattle.std.specs.Prelude.{◌≡◌, MatchOption, ◌≢◌};
-ghost use Rattle.std.specs.Bool.{Decides};
 ghost use Rattle.units.specs.Heads.{name as name_of, sorts as sorts_of};
 
 /// A number, or a list of numbers.
@@ -61,6 +60,17 @@ macro_rules! rows {
     };
 }
 
+/// The head that is spelled so.
+macro_rules! named {
+    ($letters:expr; $($name:ident $own:literal ($($field:ident $sort:ident),*) $words:literal;)*) => {
+        match $letters {
+            $($own => Some(Head::$name),)*
+            b"open" => Some(Head::Open),
+            _ => None,
+        }
+    };
+}
+
 /// Each head, in the order of `Head`.
 pub const TABLE: &[Row] = each_call!(rows);
 
@@ -69,16 +79,7 @@ impl Head {
     pub fn named(letters: &[u8]) -> Option<Head>
         ensures { MatchOption result ((h : Head) → letters.now ≢ name_of h) (λ h. letters.now ≡ name_of h) }
     {
-        TABLE
-            .iter()
-            .map(|row| row.0)
-            .find(|head| head.is_named(letters))
-    }
-
-    fn is_named(self, letters: &[u8]) -> bool
-        ensures { Decides result (letters.now ≡ name_of self) }
-    {
-        letters == self.name()
+        each_call!(named, letters)
     }
 
     /// Its letters.

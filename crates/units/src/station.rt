@@ -1,5 +1,6 @@
 //! What kind a station is of, and how far its day has come.
-ghost use Rattle.units.specs.Stations.{IsKindNumbered};
+ghost use Rattle.std.specs.Prelude.{◌≡◌};
+ghost use Rattle.units.specs.Stations.{IsKindNumbered, phase_number};
 
 use thiserror::Error;
 
@@ -40,4 +41,13 @@ pub enum Phase {
     Metering,
     /// Charges and shares are posted.
     Settled,
+}
+
+impl Phase {
+    /// The number by which a refusal names it: 0 to 3, in the order of the day.
+    pub const fn number(self) -> u64
+        ensures { result ≡ phase_number self }
+    {
+        self as u64
+    }
 }

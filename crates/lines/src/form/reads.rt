@@ -10,7 +10,7 @@ use units::fault::Fault;
 
 /// Keeps an argument, if there is room.
 fn keep<'a>(args: &mut ArrayVec<Part<'a>, MOST_GATHERED>, arg: Part<'a>)
-    ensures { args.new.items ≡ take 5 (args.old.items ++ arg.entry ∷ []) }
+    ensures { args.new.items ≡ take MOST_GATHERED (args.old.items ++ arg.entry ∷ []) }
 {
     if !args.is_full() {
         args.push(arg);
