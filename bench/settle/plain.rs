@@ -2,7 +2,7 @@
 use crate::{BLOCKS, Day, GENERATORS, Outcome, STATION_GENERATORS, STATIONS, Shares};
 use std::hint::black_box;
 
-const STATION_KW: u32 = 6_400_000;
+pub const STATION_KW: u32 = 6_400_000;
 const GENERATOR_KW: u32 = 200_000;
 
 #[derive(Clone, Copy)]
@@ -18,8 +18,8 @@ impl Account {
     }
 }
 
-struct Pages {
-    schedules: Vec<u32>,
+pub struct Pages {
+    pub schedules: Vec<u32>,
     capacities: Vec<u32>,
     readings: Vec<Option<u32>>,
     accounts: Vec<Account>,
@@ -48,10 +48,10 @@ struct Book {
 
 /// A generator, or a station in all, in one block.
 #[derive(Clone, Copy, Default)]
-struct Load {
-    actual: u32,
-    capacity: u32,
-    installed: u32,
+pub struct Load {
+    pub actual: u32,
+    pub capacity: u32,
+    pub installed: u32,
 }
 
 impl Pages {
@@ -86,7 +86,14 @@ impl Pages {
         }
     }
 
-    fn load(&self, generator: usize, block: usize) -> Load {
+    /// Puts a day's sums into a generator's account.
+    pub fn account(&mut self, generator: usize, money: i64, energy: i64) {
+        let account = &mut self.accounts[generator];
+        account.money = money;
+        account.energy = energy;
+    }
+
+    pub fn load(&self, generator: usize, block: usize) -> Load {
         let at = BLOCKS * generator + block;
         let installed = self.accounts[generator].installed.clamp(1_000, 200_000);
         Load {
@@ -98,7 +105,7 @@ impl Pages {
 }
 
 /// The charge for a deviation, by bands that begin at 10, 20 and 30 percent of the capacity.
-fn charge(deviation: i64, capacity: u32) -> i64 {
+pub fn charge(deviation: i64, capacity: u32) -> i64 {
     let error = 100 * deviation.unsigned_abs();
     let capacity = u64::from(capacity);
     let part = |low: u64, high: u64| error.min(high).saturating_sub(low);
@@ -109,7 +116,7 @@ fn charge(deviation: i64, capacity: u32) -> i64 {
 }
 
 /// A generator's weight: its actual, its capacity where nothing was delivered, its installed power where nothing was declared.
-fn weight(own: &Load, station: &Load) -> u32 {
+pub fn weight(own: &Load, station: &Load) -> u32 {
     if station.actual > 0 {
         own.actual
     } else if station.capacity > 0 {
@@ -133,7 +140,11 @@ fn split(amount: i64, weights: &[u32], total: u32, sums: &mut [i64]) {
     }
 }
 
-/// Posts a station's day to its generators' accounts, and answers its charges.
+/// Posts a station's day to its generators' accounts, and answers its charges: of station `t`, whose `count` generators
+/// stand from `first` on.
+pub type Post = fn(pages: &mut Pages, t: usize, first: usize, count: usize) -> i64;
+
+/// Block by block, with a division for each share.
 fn post(pages: &mut Pages, t: usize, first: usize, count: usize) -> i64 {
     let mut charges = 0;
     let mut money = [0; STATION_GENERATORS];
@@ -160,9 +171,8 @@ fn post(pages: &mut Pages, t: usize, first: usize, count: usize) -> i64 {
         split(deviation, weights, total, &mut energy);
         charges += owed;
     }
-    for (k, account) in pages.accounts[first..first + count].iter_mut().enumerate() {
-        account.money = money[k];
-        account.energy = energy[k];
+    for k in 0..count {
+        pages.account(first + k, money[k], energy[k]);
     }
     charges
 }
@@ -198,7 +208,7 @@ impl Book {
     }
 
     /// Every reading is there, and the station's day is posted.
-    fn settle(&mut self, pages: &mut Pages, t: usize) {
+    fn settle(&mut self, pages: &mut Pages, t: usize, post: Post) {
         let station = &mut self.stations[t];
         assert!(station.phase == Phase::Metering);
         let end = station.first + station.count;
@@ -210,6 +220,11 @@ impl Book {
 
 /// Opens `books` books, settles each where `settle` says so, and reports the last.
 pub fn run(day: &Day, books: usize, settle: bool) -> Outcome {
+    run_by(post, day, books, settle)
+}
+
+/// The same, where a day is posted so.
+pub fn run_by(post: Post, day: &Day, books: usize, settle: bool) -> Outcome {
     let mut blank = Pages::blank();
     let mut pages = Pages::of_day(day);
     let mut last = None;
@@ -224,7 +239,7 @@ pub fn run(day: &Day, books: usize, settle: bool) -> Outcome {
         black_box(&blank);
         if settle {
             for t in 0..STATIONS {
-                book.settle(&mut pages, t);
+                book.settle(&mut pages, t, post);
             }
         }
         last = Some(book);

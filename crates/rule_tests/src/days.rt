@@ -24,25 +24,25 @@ fn day_of_two(rt: HostRuntime) -> Result<(), Fail> {
     readings[95] = Some(0);
     let mut accounts = [EMPTY; 3];
     accounts[1].installed = 3000;
-    let pages = Pages {
-        schedules: &schedules,
-        capacities: &[3000; 2 * BLOCKS],
-        readings: &readings,
-        accounts: &accounts,
+    let heap = rt.alloc();
+    let mut pages = Pages {
+        schedules: schedules.to_vec(heap)?,
+        capacities: vec![in heap; 3000u32; 2 * BLOCKS]?,
+        readings: readings.to_vec(heap)?,
+        accounts: accounts.to_vec(heap)?,
     };
-    let members = Members::of(0, 2).ok_or("two generators")?;
     let day = Day {
         tariff: &Banded::From10,
         key: &UnitsKey,
         station: 0,
-        members,
-        pages,
+        members: Members::of(0, 2).ok_or("two generators")?,
+        pages: &pages,
     };
     let sums = day.sums();
-    sums.post(&mut accounts);
+    sums.post(&mut pages.accounts);
     assert_eq!(rt; sums.charges, 1250);
-    assert_eq!(rt; accounts[1].energy, 500);
-    assert_eq!(rt; accounts[2].money, 7);
+    assert_eq!(rt; pages.accounts[1].energy, 500);
+    assert_eq!(rt; pages.accounts[2].money, 7);
     Ok(())
 }
 
@@ -57,28 +57,29 @@ fn day_in_proportion_to_the_capacity(rt: HostRuntime) -> Result<(), Fail> {
     for capacity in &mut capacities[BLOCKS..] {
         *capacity = 120_000;
     }
-    let mut accounts = [Account::new(200_000); 2];
+    let heap = rt.alloc();
+    let mut pages = Pages {
+        schedules: vec![in heap; 300_000u32; BLOCKS]?,
+        capacities: capacities.to_vec(heap)?,
+        readings: readings.to_vec(heap)?,
+        accounts: vec![in heap; Account::new(200_000); 2]?,
+    };
     let day = Day {
         tariff: &Proportional,
         key: &UnitsKey,
         station: 0,
         members: Members::of(0, 2).ok_or("two generators")?,
-        pages: Pages {
-            schedules: &[300_000; BLOCKS],
-            capacities: &capacities,
-            readings: &readings,
-            accounts: &accounts,
-        },
+        pages: &pages,
     };
     assert_eq!(rt; day.figures(0).money, 1_000);
     assert_eq!(rt; day.figures(95).money, 2_500);
     let sums = day.sums();
-    sums.post(&mut accounts);
+    sums.post(&mut pages.accounts);
     assert_eq!(rt; sums.charges, 3_500);
-    assert_eq!(rt; accounts[0].money, 1_468);
-    assert_eq!(rt; accounts[0].energy, -10_622);
-    assert_eq!(rt; accounts[1].money, 2_032);
-    assert_eq!(rt; accounts[1].energy, -19_371);
+    assert_eq!(rt; pages.accounts[0].money, 1_468);
+    assert_eq!(rt; pages.accounts[0].energy, -10_622);
+    assert_eq!(rt; pages.accounts[1].money, 2_032);
+    assert_eq!(rt; pages.accounts[1].energy, -19_371);
     Ok(())
 }
 

@@ -4,7 +4,8 @@ ghost use Rattle.units.specs.Heads.{sorts};
 ghost use Rattle.units.specs.Calls.{list_in, number_in, one, padded, value_of};
 ghost use Rattle.units.specs.Calls.{opening_said, parts_said, said, IsCallOf};
 
-use crate::head::{Head, each_call};
+use crate::each_call;
+use crate::head::Head;
 use std::array;
 
 /// The most arguments that a head takes.
@@ -117,7 +118,7 @@ pub struct Parts<'a> {
 
 /// The parts of a call.
 macro_rules! taken_apart {
-    ($call:expr; $($name:ident $letters:literal ($($field:ident $sort:ident),*) $words:literal;)*) => {
+    ($call:expr; $($name:ident $method:ident $letters:literal ($($field:ident $sort:ident),*) $words:literal;)*) => {
         match $call {
             $(Call::$name { $($field),* } => told(Head::$name, &[$(Value::$sort($field)),*]),)*
         }
@@ -136,7 +137,7 @@ macro_rules! taken {
 
 /// The call of parts, if their head is a call's.
 macro_rules! made {
-    ($parts:expr; $($name:ident $letters:literal ($($field:ident $sort:ident),*) $words:literal;)*) => {
+    ($parts:expr; $($name:ident $method:ident $letters:literal ($($field:ident $sort:ident),*) $words:literal;)*) => {
         match $parts.head {
             $(Head::$name => {
                 let [$($field,)* ..] = $parts.values;

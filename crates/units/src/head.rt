@@ -25,34 +25,33 @@ pub enum Head {
     Open,
 }
 
-/// Hands each call to a macro: its name, its letters, its arguments in the order of its line, each with its sort, and what
-/// it asks for in words, with `{}` for each argument.
+/// Hands each call to a macro, behind what the macro is of: its name, the method of a book that makes it, its letters, its
+/// arguments in the order of its line, each with its sort, and what it asks for in words, with `{}` for each argument.
+#[macro_export]
 macro_rules! each_call {
-    ($go:ident $(, $of:expr)?) => {
+    ($go:ident $(, $of:expr)*) => {
         $go! {
-            $($of)?;
-            File b"file" (station Number, from Number, to Number, kw Number) "file: station {}, blocks {} to {}, {} kW";
-            Declare b"declare" (generator Number, from Number, to Number, kw Number) "declare: generator {}, blocks {} to {}, {} kW";
-            Issue b"issue" (station Number) "issue: station {}";
-            Revise b"revise" (station Number, number Number, notice Number, values List) "revise: station {}, revision {}, notice in block {}, {} kW";
-            Close b"close" (station Number) "close: station {}";
-            Read b"read" (generator Number, from Number, to Number, kw Number) "read: generator {}, blocks {} to {}, {} kW";
-            Settle b"settle" (station Number) "settle: station {}";
-            Correct b"correct" (generator Number, block Number, kw Number) "correct: generator {}, block {}, {} kW";
-            Pay b"pay" (station Number, amount Number) "pay: station {}, {} paise";
-            Draw b"draw" (station Number, amount Number) "draw: station {}, {} paise";
+            $($of),*;
+            File file b"file" (station Number, from Number, to Number, kw Number) "file: station {}, blocks {} to {}, {} kW";
+            Declare declare b"declare" (generator Number, from Number, to Number, kw Number) "declare: generator {}, blocks {} to {}, {} kW";
+            Issue issue b"issue" (station Number) "issue: station {}";
+            Revise revise b"revise" (station Number, number Number, notice Number, values List) "revise: station {}, revision {}, notice in block {}, {} kW";
+            Close close b"close" (station Number) "close: station {}";
+            Read read b"read" (generator Number, from Number, to Number, kw Number) "read: generator {}, blocks {} to {}, {} kW";
+            Settle settle b"settle" (station Number) "settle: station {}";
+            Correct correct b"correct" (generator Number, block Number, kw Number) "correct: generator {}, block {}, {} kW";
+            Pay pay b"pay" (station Number, amount Number) "pay: station {}, {} paise";
+            Draw draw b"draw" (station Number, amount Number) "draw: station {}, {} paise";
         }
     };
 }
-
-pub(crate) use each_call;
 
 /// A head, its letters, the sorts of the arguments that it takes, and what it asks for in words, with `{}` for each argument.
 pub type Row = (Head, &'static [u8], &'static [Sort], &'static str);
 
 /// The rows of calls, and then that of an opening.
 macro_rules! rows {
-    (; $($name:ident $letters:literal ($($field:ident $sort:ident),*) $words:literal;)*) => {
+    (; $($name:ident $method:ident $letters:literal ($($field:ident $sort:ident),*) $words:literal;)*) => {
         &[
             $((Head::$name, $letters, &[$(Sort::$sort),*], $words),)*
             (Head::Open, b"open", &[Sort::List; 3], "open: kinds {}, generators {}, installed {} kW"),
@@ -62,7 +61,7 @@ macro_rules! rows {
 
 /// The head that is spelled so.
 macro_rules! named {
-    ($letters:expr; $($name:ident $own:literal ($($field:ident $sort:ident),*) $words:literal;)*) => {
+    ($letters:expr; $($name:ident $method:ident $own:literal ($($field:ident $sort:ident),*) $words:literal;)*) => {
         match $letters {
             $($own => Some(Head::$name),)*
             b"open" => Some(Head::Open),

@@ -11,49 +11,24 @@ use share::key::Key;
 use std::alloc::Global;
 use tariff::tariff::Tariff;
 use units::call::Call;
+use units::each_call;
 use units::fault::Fault;
+
+/// What the call's own method answers.
+macro_rules! made {
+    ($book:expr, $pages:expr, $call:expr; $($name:ident $method:ident $letters:literal ($($field:ident $sort:ident),*) $words:literal;)*) => {
+        match $call {
+            $(Call::$name { $($field),* } => $book.$method($pages, $($field),*),)*
+        }
+    };
+}
 
 impl<T: Tariff, K: Key> Book<T, K> {
     /// Makes the call.
     pub fn apply(&mut self, pages: &mut Pages, call: &Call) -> Result<(), Fault>
         ensures { Makes (step call.now) self.old pages.old self.new pages.new result }
     {
-        match call {
-            Call::File {
-                station,
-                from,
-                to,
-                kw,
-            } => self.file(pages, *station, *from, *to, *kw),
-            Call::Declare {
-                generator,
-                from,
-                to,
-                kw,
-            } => self.declare(pages, *generator, *from, *to, *kw),
-            Call::Issue { station } => self.issue(pages, *station),
-            Call::Revise {
-                station,
-                number,
-                notice,
-                values,
-            } => self.revise(pages, *station, *number, *notice, values),
-            Call::Close { station } => self.close(pages, *station),
-            Call::Read {
-                generator,
-                from,
-                to,
-                kw,
-            } => self.read(pages, *generator, *from, *to, *kw),
-            Call::Settle { station } => self.settle(pages, *station),
-            Call::Correct {
-                generator,
-                block,
-                kw,
-            } => self.correct(pages, *generator, *block, *kw),
-            Call::Pay { station, amount } => self.pay(pages, *station, *amount),
-            Call::Draw { station, amount } => self.draw(pages, *station, *amount),
-        }
+        each_call!(made, self, pages, *call)
     }
 
     /// Makes each call in turn, and goes on after a refusal. Without memory for the answers, makes none.
