@@ -69,15 +69,13 @@ in_book b t x within is =
       });
     }
 
--- the station t of the slice that a book lends may stay as it is
+-- so is the station t of the slice that it lends
 pub own : {T K : Type 0} {rules : tariff.Ghosts T} {weights : key.Ghosts K} (b : Book T K rules weights) (lent : List Station) (t : ℕ) (d : Station) → t < length b.stations.items → lent ≡ b.stations.items
-    → Changes b.stations.items t b.cash (get_or lent t d) b.cash
+    → StationIs b.stations.items b.cash t (get_or lent t d)
 own b lent t d within same =
-    let ss = b.stations.items in
-    let is : get_or ss t nobody ≡ get_or lent t d = get_or_default ss t nobody d within ∙ ap (λ zs. get_or zs t d) (sym same) in
-    subst (λ (x : Station). Changes ss t b.cash x b.cash) is (in_book b t (get_or ss t nobody) within refl).stays
+    in_book b t (get_or lent t d) within (ap (λ zs. get_or zs t d) same ∙ sym (get_or_default b.stations.items t nobody d within))
 
--- and it alone may take the stage of a station that it may become
+-- it may take the stage of a station that it may become
 pub staged_back : (ss lent : List Station) (t cash : ℕ) (d y : Station) (f : Stage → Stage) → lent ≡ ss → Changes ss t cash y cash → y ≡ on_stage f (get_or ss t nobody)
     → Changes ss t cash (record (get_or lent t d) { stage = y.stage }) cash
 staged_back ss lent t cash d y f same h e =

@@ -27,7 +27,7 @@ impl<T: Tariff, K: Key> Book<T, K> {
     {
         let charges = pages.post(&self.tariff, &self.key, t as u8, station.plant.members);
         station.balance.settle(charges);
-        self.put(t, station, self.cash);
+        self.stations[t] = station;
     }
 
     /// The charges and shares of station `t` are posted.

@@ -15,4 +15,4 @@ invariant_of-self g c =
     let becomes = c.in_ok-station.ensures.1.becomes in
     let plant = becomes.placed d ∙ ap (λ zs. (get_or zs t d).plant) (sym same) in
     let noticed = subst (λ (p : Plant). slot_of p.kind c.args.notice ≡ Some c.in_ok-slot.slot) plant c.in_ok-slot.ensures.1.slotted in
-    put_back b lent t _ same (revised_back (own b lent t d becomes.within same) c.args.notice c.in_ok-slot.slot c.revise.new.self noticed c.revise.ensures)
+    put_back b lent t _ same (revised_back (own b lent t d becomes.within same).stays c.args.notice c.in_ok-slot.slot c.revise.new.self noticed c.revise.ensures)
