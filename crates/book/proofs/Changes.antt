@@ -1,10 +1,10 @@
 -- A changed station may be put back where it keeps what the book needs.
-use Rattle.std.proofs.Common.{◌≡◌, ℕ, zero, suc, ◌+◌, ◌-◌, ◌*◌, ◌<◌, ◌≤◌, true, false, List, [], ◌∷◌, length, get_or, ℤ, pos, negsuc, ◌+ℤ◌, ◌-ℤ◌, nat_abs, ◌≤ℤ◌, Some, None, Option, sym, refl, ap, ◌∙◌, subst, suc-le-suc, arith, Bor}
+use Rattle.std.proofs.Common.{◌≡◌, ℕ, zero, suc, ◌+◌, ◌-◌, ◌*◌, ◌<◌, ◌≤◌, true, List, [], ◌∷◌, length, get_or, ℤ, pos, negsuc, ◌+ℤ◌, ◌-ℤ◌, nat_abs, ◌≤ℤ◌, Some, None, Option, sym, refl, ap, ◌∙◌, subst, suc-le-suc, arith, Bor}
 use Rattle.book.proofs.Causes.{notice_bounds}
 use Rattle.units.specs.Refusals.{Checks}
 use Rattle.book.specs.Sound.{Changes, IsBounded, IsSound, nets, slots_of}
 use Rattle.book.specs.States.{no_station_of, nobody, StationIs}
-use Rattle.book.specs.Stations.{available, drawn, due_of, filed_on, is_settled, moved, on_balance, on_stage, paid, receivable, revised_in, settled_at, slot_of, with_net}
+use Rattle.book.specs.Stations.{available, drawn, due_of, filed_on, is_settled, on_balance, on_stage, paid, receivable, revised_in, settled_at, slot_of, with_net}
 use Rattle.book.specs.declared.book.Book.{Book}
 use Rattle.book.specs.declared.station.Station.{Station}
 use Rattle.book.specs.declared.station.balance.Balance.{Balance}
@@ -17,7 +17,6 @@ use Rattle.std.specs.List.{All}
 use Rattle.std.specs.Option.{ok_or, option_copied}
 use Rattle.std.specs.Slice.{IsItemAt}
 use Rattle.units.specs.declared.fault.Fault.TheVariants.{NoSuchNumber}
-use Rattle.units.specs.declared.head.Head.{Head}
 use Rattle.units.specs.declared.limits.TheConstants.{BLOCKS, DAY_PAISE, MOST_CASH, STATIONS}
 use Rattle.tariff.specs.declared.tariff.Tariff as tariff
 use Rattle.units.proofs.Sets.{with_span_low}
@@ -69,6 +68,21 @@ in_book b t x within is =
         even = λ d. ap (λ (y : Station). y.balance.net +ℤ pos b.cash) (same d);
       });
     }
+
+-- so is the station t of the slice that it lends
+pub own : {T K : Type 0} {rules : tariff.Ghosts T} {weights : key.Ghosts K} (b : Book T K rules weights) (lent : List Station) (t : ℕ) (d : Station) → t < length b.stations.items → lent ≡ b.stations.items
+    → StationIs b.stations.items b.cash t (get_or lent t d)
+own b lent t d within same =
+    in_book b t (get_or lent t d) within (ap (λ zs. get_or zs t d) same ∙ sym (get_or_default b.stations.items t nobody d within))
+
+-- it may take the stage of a station that it may become
+pub staged_back : (ss lent : List Station) (t cash : ℕ) (d y : Station) (f : Stage → Stage) → lent ≡ ss → Changes ss t cash y cash → y ≡ on_stage f (get_or ss t nobody)
+    → Changes ss t cash (record (get_or lent t d) { stage = y.stage }) cash
+staged_back ss lent t cash d y f same h e =
+    let is : get_or ss t nobody ≡ get_or lent t d = get_or_default ss t nobody d h.within ∙ ap (λ zs. get_or zs t d) (sym same) in
+    subst (λ (x : Station). Changes ss t cash (record x { stage = y.stage }) cash) is
+    (subst (λ (z : Station). Changes ss t cash (record (get_or ss t nobody) { stage = z.stage }) cash) (sym e)
+    (subst (λ (z : Station). Changes ss t cash z cash) e h))
 
 -- what x may become, where it may stay as it is
 module _ {ss : List Station} {t cash : ℕ} {x : Station} (h : Changes ss t cash x cash) where

@@ -1,5 +1,5 @@
 -- The promises, from the causes that do not hold in an accepted call.
-use Rattle.std.proofs.Common.{◌≡◌, ℕ, zero, suc, ◌+◌, ◌-◌, ◌*◌, ◌<◌, ◌≤◌, true, false, leb, List, length, get_or, Some, None, Option, sym, refl, ap, ◌∙◌, subst, ⊎_elim, arith}
+use Rattle.std.proofs.Common.{◌≡◌, ℕ, zero, suc, ◌-◌, ◌<◌, ◌≤◌, true, false, leb, List, length, get_or, Some, None, Option, sym, refl, ap, ◌∙◌, subst, ⊎_elim, arith}
 use Rattle.book.specs.Calls.{first_revised, posted, revising, unless}
 use Rattle.book.specs.Causes.{used_slot}
 use Rattle.book.specs.Lists.{entry, spliced}

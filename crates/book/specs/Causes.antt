@@ -1,13 +1,15 @@
 -- The causes for which a call's own numbers refuse it.
-use Rattle.std.specs.Prelude.{ℕ, ◌+◌, ◌-◌, not, ◌||◌, List, [], ◌∷◌, length, Some, None, Option, ◌==◌, nat_le, nat_lt, position}
+use Rattle.std.specs.Prelude.{◌≡◌, ℕ, ◌+◌, ◌-◌, ◌≤◌, not, ◌||◌, List, [], ◌∷◌, length, Some, None, Option, ◌==◌, nat_le, nat_lt, position}
 use Rattle.units.specs.Refusals.{when}
 use Rattle.book.specs.Stations.{slot_of}
 use Rattle.book.specs.declared.station.Station.{Station}
+use Rattle.book.specs.declared.station.stage.Stage.{Stage}
 use Rattle.std.specs.Option.{option_map, unwrap_or}
 use Rattle.units.specs.Bits.{count_of, last_of}
 use Rattle.units.specs.declared.fault.Fault.{Fault}
 use Rattle.units.specs.declared.fault.Fault.TheVariants.{BadAmount, BadBlocks, BadNotice, HighValue, RevisionNumber, UsedSlot, ValueCount}
-use Rattle.units.specs.declared.limits.TheConstants.{BLOCKS, MOST_AMOUNT, REVISION_LEAD, STATION_KW}
+use Rattle.units.specs.declared.limits.TheConstants.{BLOCKS, LAST_NOTICE, MOST_AMOUNT, REVISION_LEAD, STATION_KW}
+use Rattle.units.specs.declared.station.Kind.{Kind}
 
 -- a block that the day doesn't have, or the first after the last
 abbrev pub bad_blocks : ℕ → ℕ → Option Fault
@@ -39,6 +41,10 @@ abbrev pub used_slot : ℕ → Option ℕ → Option Fault
 used_slot slot None = None
 used_slot slot (Some last) = when (nat_le slot last) (UsedSlot slot last)
 
+-- the causes for which revision k in a slot is refused by those that were made before
+abbrev pub order_causes : ℕ → ℕ → Stage → List (Option Fault)
+order_causes k slot s = wrong_number k (count_of s.slots.bits) ∷ used_slot slot (last_of s.slots.bits) ∷ []
+
 -- the causes for which revision k of station x, with notice in block n, is refused for its own numbers
 abbrev pub revision_causes : ℕ → ℕ → List ℕ → Station → List (Option Fault)
 revision_causes k n vs x =
@@ -46,9 +52,14 @@ revision_causes k n vs x =
     bad_notice n slot
     ∷ value_count (length vs) (BLOCKS - REVISION_LEAD - n)
     ∷ high_values STATION_KW vs
-    ∷ wrong_number k (count_of x.stage.slots.bits)
-    ∷ used_slot (unwrap_or slot 0) (last_of x.stage.slots.bits)
-    ∷ []
+    ∷ order_causes k (unwrap_or slot 0) x.stage
+
+-- An accepted revision with notice in block n, of a station of this kind: its slot, and the values that it schedules.
+pub record IsRevision (kind : Kind) (n : ℕ) (vs : List ℕ) (slot : ℕ) (schedule : List ℕ) : Type 0 where
+  pub slotted : slot_of kind n ≡ Some slot
+  pub low : n ≤ LAST_NOTICE
+  pub counted : length vs ≡ BLOCKS - REVISION_LEAD - n
+  pub all : schedule ≡ vs
 
 -- an amount of nothing, or above the most of one call
 abbrev pub bad_amount : ℕ → ℕ → Option Fault

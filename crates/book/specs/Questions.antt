@@ -1,22 +1,31 @@
 -- What the questions answer, and why they are refused.
-use Rattle.std.specs.Prelude.{◌≡◌, ℕ, ◌-◌, [], ◌∷◌, take, drop, None, Option, slice_index_or}
+use Rattle.std.specs.Prelude.{◌≡◌, ℕ, ◌-◌, ◌≤◌, [], ◌∷◌, take, drop, None, Option, slice_index_or}
 use Rattle.book.specs.Calls.{missing_reading}
 use Rattle.book.specs.Causes.{bad_blocks}
 use Rattle.units.specs.Refusals.{first}
 use Rattle.book.specs.States.{State, admission, day_at, generator_admission, owner_of, station_at}
+use Rattle.book.specs.Sound.{slots_of}
 use Rattle.book.specs.Stations.{Ask, due_of}
 use Rattle.book.specs.declared.answers.Progress.{Progress}
 use Rattle.book.specs.declared.answers.Statement.{Statement}
+use Rattle.book.specs.declared.station.Station.{Station}
 use Rattle.book.specs.declared.station.stage.Stage.{Stage}
 use Rattle.posting.specs.Days.{figures_at, no_account, share_at}
 use Rattle.posting.specs.Missing.{missing_in}
 use Rattle.share.specs.declared.amounts.Amounts.{Amounts}
 use Rattle.units.specs.Bits.{count_of}
 use Rattle.units.specs.declared.fault.Fault.{Fault}
+use Rattle.units.specs.declared.limits.TheConstants.{BLOCKS}
 
 -- the phase, the number of filed blocks and that of revisions used
 abbrev pub progress_of : Stage → Progress
 progress_of x = record { phase = x.phase; filed = count_of x.filed.bits; revisions = count_of x.slots.bits }
+
+-- the progress of a station, within the blocks and the slots of a day
+pub record IsProgress (x : Station) (p : Progress) : Type 0 where
+  pub is : p ≡ progress_of x.stage
+  pub filed : p.filed ≤ BLOCKS
+  pub revisions : p.revisions ≤ slots_of x.plant.kind
 
 -- the first reading of the station t that is missing in the block b
 abbrev pub missing_in_block : ℕ → ℕ → State → Option Fault

@@ -4,7 +4,6 @@ mod filing;
 mod generators;
 mod money;
 mod open;
-mod places;
 mod posting_calls;
 mod questions;
 mod runs;

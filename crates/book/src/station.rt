@@ -3,11 +3,11 @@ mod balance;
 mod plant;
 mod stage;
 
-ghost use Rattle.std.specs.Prelude.{◌≡◌, ◌-◌, ◌≤◌, length, Some};
-ghost use Rattle.book.specs.Causes.{revision_causes};
+ghost use Rattle.std.specs.Prelude.{◌≡◌};
+ghost use Rattle.book.specs.Causes.{IsRevision, revision_causes};
 ghost use Rattle.units.specs.Refusals.{Checks, first};
 ghost use Rattle.book.specs.States.{wrong_phase};
-ghost use Rattle.book.specs.Stations.{fresh, moved, on_stage, slot_of};
+ghost use Rattle.book.specs.Stations.{fresh, moved, on_stage};
 
 use crate::checks::{all_at_most, as_many};
 use arrayvec::ArrayVec;
@@ -18,7 +18,7 @@ pub use stage::Stage;
 use units::bits::BitSet;
 use units::fault::Fault;
 use units::head::Head;
-use units::limits::{BLOCKS, LAST_NOTICE, REVISION_LEAD, STATION_KW};
+use units::limits::{BLOCKS, REVISION_LEAD, STATION_KW};
 use units::station::{Kind, Phase};
 
 /// A block's charge and shares may be asked for where a reading may be corrected.
@@ -62,7 +62,7 @@ impl Station {
         notice: u64,
         values: &[u64],
     ) -> Result<(u8, ArrayVec<u32, BLOCKS>), Fault>
-        ensures { Checks (first (revision_causes number notice values.now self.now)) (λ x. (slot_of self.now.plant.kind notice ≡ Some x.0) × (notice ≤ LAST_NOTICE) × (length values.now ≡ BLOCKS - REVISION_LEAD - notice) × (x.1.items ≡ values.now)) result }
+        ensures { Checks (first (revision_causes number notice values.now self.now)) (λ x. IsRevision self.now.plant.kind notice values.now x.0 x.1.items) result }
     {
         let slot = self.plant.slot(notice).ok_or(Fault::BadNotice { notice })?;
         as_many(values.len(), BLOCKS as u64 - REVISION_LEAD - notice)?;

@@ -99,7 +99,7 @@ module _ (y : Layout) (d : Data) (s : State) (h : Kept y d s) where
       asks u e = none_when (not (is_some (moves (station_at s u).stage.phase Ask))) _ (ap (λ k. not (is_some (moves (station_at s k).stage.phase Ask))) e ∙ ap (λ p. not (is_some (moves p Ask))) in_phase)
 
       block_fine : (b : ℕ) → b < BLOCKS → bad_blocks b b ≡ None
-      block_fine b l = none_when _ _ (or_from _ _ (le-ltb 95 b (omega arith)) (le-ltb b b (omega arith)))
+      block_fine b l = none_when _ _ (or_from _ _ (lt-leb _ _ l) (le-ltb b b (omega arith)))
 
       all_read : (b : ℕ) → b < BLOCKS → missing_in_block t b s ≡ None
       all_read b l =

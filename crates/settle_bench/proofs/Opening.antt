@@ -3,7 +3,7 @@ use Rattle.std.proofs.Common.{◌≡◌, ℕ, zero, suc, ◌+◌, ◌*◌, ◌<�
 use Rattle.book.specs.Calls.{Answer, Does, closing, filing, issuing}
 use Rattle.book.specs.Opening.{View, station_opened, opened_stations, view_of}
 use Rattle.book.specs.States.{State, nobody, station_at}
-use Rattle.book.specs.Stations.{filed_on, moved}
+use Rattle.book.specs.Stations.{filed_on, moved, on_stage}
 use Rattle.units.specs.declared.head.Head.TheVariants.{File, Issue, Close}
 use Rattle.book.specs.declared.station.Station.{Station}
 use Rattle.posting.specs.Amounts.{opened_account}
@@ -45,6 +45,6 @@ pub through : (t : ℕ) (z filed issued closed : State) (r q p : Answer) → t <
     → Does (closing t issued) p closed → p ≡ Ok tt
     → Sixteen z.stations → Sixteen closed.stations
 through t z filed issued closed r q p h files r-ok issues q-ok closes p-ok old =
-    let one : Sixteen filed.stations = subst (λ (y : State). Sixteen y.stations) (sym (taken _ z _ filed r files r-ok)) (still_sixteen z.stations t (filed_on 0 95 (moved File (station_at z t))) h refl refl old) in
-    let two : Sixteen issued.stations = subst (λ (y : State). Sixteen y.stations) (sym (taken _ filed _ issued q issues q-ok)) (still_sixteen filed.stations t (moved Issue (station_at filed t)) h refl refl one) in
-    subst (λ (y : State). Sixteen y.stations) (sym (taken _ issued _ closed p closes p-ok)) (still_sixteen issued.stations t (moved Close (station_at issued t)) h refl refl two)
+    let one : Sixteen filed.stations = subst (λ (y : State). Sixteen y.stations) (sym (taken _ z _ filed r files r-ok)) (still_sixteen z.stations t (on_stage (filed_on 0 95) (on_stage (moved File) (station_at z t))) h refl refl old) in
+    let two : Sixteen issued.stations = subst (λ (y : State). Sixteen y.stations) (sym (taken _ filed _ issued q issues q-ok)) (still_sixteen filed.stations t (on_stage (moved Issue) (station_at filed t)) h refl refl one) in
+    subst (λ (y : State). Sixteen y.stations) (sym (taken _ issued _ closed p closes p-ok)) (still_sixteen issued.stations t (on_stage (moved Close) (station_at issued t)) h refl refl two)

@@ -2,7 +2,7 @@
 use Rattle.std.proofs.Common.{◌≡◌, ℕ, ◌+◌, ◌*◌, ◌<◌, ◌≤◌, ◌≢◌, List, length, get_or, set, ℤ, pos, ◌+ℤ◌, Some, None, Ok, Option, sym, refl, ap, ◌∙◌, subst, ⊎_elim, inl, arith}
 use Rattle.book.specs.Calls.{Answer, Does, posted, settling, unless}
 use Rattle.book.specs.States.{State, day_at, nobody, station_at}
-use Rattle.book.specs.Stations.{moved, settled_at}
+use Rattle.book.specs.Stations.{moved, on_balance, on_stage, settled_at}
 use Rattle.units.specs.declared.head.Head.TheVariants.{Settle}
 use Rattle.book.specs.declared.station.Station.{Station}
 use Rattle.posting.proofs.Accounts.{changed_in, changed_out, length_changed, powers_kept}
@@ -25,42 +25,42 @@ taken None z e after r does ok = does.after
 taken (Some f) z e after r does ok = let z : ◌≡◌ {A = ℕ} 0 1 = cc in absurd (omega arith)
 
 -- a station changed, but for its generators and its payments
-pub still_sixteen : (ss : List Station) (t : ℕ) (x : Station) → t < 16 → x.members ≡ (get_or ss t nobody).members → x.net ≡ (get_or ss t nobody).net → Sixteen ss → Sixteen (set ss t x)
+pub still_sixteen : (ss : List Station) (t : ℕ) (x : Station) → t < 16 → x.plant.members ≡ (get_or ss t nobody).plant.members → x.balance.net ≡ (get_or ss t nobody).balance.net → Sixteen ss → Sixteen (set ss t x)
 still_sixteen ss t x h members net old =
     let within : t < length ss = rw old.many h in
     let same = get_or-set_same ss t x nobody within in
     record {
       many = length-set ss t x ∙ old.many;
       placed = λ u l. ⊎_elim
-          (λ (q : u ≡ t). subst (λ (n : ℕ). Placed n (get_or (set ss t x) n nobody).members) (sym q)
-          (subst (λ (m : Members). Placed t m) (sym (ap (λ (y : Station). y.members) same ∙ members)) (old.placed t h)))
-          (λ (q : u ≢ t). subst (λ (y : Station). Placed u y.members) (sym (get_or-set_other ss t u x nobody q)) (old.placed u l))
+          (λ (q : u ≡ t). subst (λ (n : ℕ). Placed n (get_or (set ss t x) n nobody).plant.members) (sym q)
+          (subst (λ (m : Members). Placed t m) (sym (ap (λ (y : Station). y.plant.members) same ∙ members)) (old.placed t h)))
+          (λ (q : u ≢ t). subst (λ (y : Station). Placed u y.plant.members) (sym (get_or-set_other ss t u x nobody q)) (old.placed u l))
           (cases_eq u t);
       even = λ u l. ⊎_elim
-          (λ (q : u ≡ t). subst (λ (n : ℕ). (get_or (set ss t x) n nobody).net ≡ pos 0) (sym q) (ap (λ (y : Station). y.net) same ∙ net ∙ old.even t h))
-          (λ (q : u ≢ t). ap (λ (y : Station). y.net) (get_or-set_other ss t u x nobody q) ∙ old.even u l)
+          (λ (q : u ≡ t). subst (λ (n : ℕ). (get_or (set ss t x) n nobody).balance.net ≡ pos 0) (sym q) (ap (λ (y : Station). y.balance.net) same ∙ net ∙ old.even t h))
+          (λ (q : u ≢ t). ap (λ (y : Station). y.balance.net) (get_or-set_other ss t u x nobody q) ∙ old.even u l)
           (cases_eq u t);
     }
 
 -- the station t is posted
 module _ (s : Sheet) (z : State) (t : ℕ) (h : t < 16) (full : Full s z) (by : z.rules ≡ bench_rules) where
   abbrev x : Station
-  x = moved Settle (station_at z t)
+  x = on_stage (moved Settle) (station_at z t)
 
   abbrev e : State
   e = posted t x z
 
   abbrev day : StationDay
-  day = day_at z t x.members
+  day = day_at z t x.plant.members
 
-  day_is : day ≡ day_by s t x.members
+  day_is : day ≡ day_by s t x.plant.members
   day_is = let sheet = full.sheet in cc
 
   abbrev after_posting : ℕ → Account → Account
   after_posting = account_after day
 
   abbrev done_station : Station
-  done_station = settled_at (standing_charges day) x
+  done_station = on_balance (settled_at (standing_charges day)) x
 
   here : station_at e t ≡ done_station
   here = get_or-set_same z.stations t done_station nobody (rw full.stations.many h)
@@ -68,7 +68,7 @@ module _ (s : Sheet) (z : State) (t : ℕ) (h : t < 16) (full : Full s z) (by : 
   still_full : Full s e
   still_full = record {
     sheet = ap (λ (powers : List ℕ). record { schedules = z.schedules; capacities = z.capacities; readings = z.readings; installed = powers }) (powers_kept day z.accounts) ∙ full.sheet;
-    accounts = length_changed x.members.first x.members.count after_posting z.accounts ∙ full.accounts;
+    accounts = length_changed x.plant.members.first x.plant.members.count after_posting z.accounts ∙ full.accounts;
     stations = still_sixteen z.stations t done_station h refl refl full.stations;
   }
 
@@ -78,26 +78,26 @@ module _ (s : Sheet) (z : State) (t : ℕ) (h : t < 16) (full : Full s z) (by : 
       let ne : u ≢ t = λ q. omega arith in
       let same = sym (get_or-set_other z.stations t u done_station nobody ne) in
       let kept : (k : ℕ) → k < 32 → get_or e.accounts (32 * u + k) no_account ≡ get_or z.accounts (32 * u + k) no_account = λ k b.
-      changed_out x.members.first x.members.count after_posting z.accounts (32 * u + k) no_account (omega (arith, full.accounts))
+      changed_out x.plant.members.first x.plant.members.count after_posting z.accounts (32 * u + k) no_account (omega (arith, full.accounts))
       (inl (omega (arith, (full.stations.placed t h).first))) in
       record {
-        charges = subst (λ (y : Station). y.charges ≡ standing_charges (day_by s u y.members)) same old.charges;
-        money = λ k b. ap (λ (a : Account). a.money) (kept k b) ∙ subst (λ (y : Station). (get_or z.accounts (32 * u + k) no_account).money ≡ money_of s u y.members k) same (old.money k b);
-        energy = λ k b. ap (λ (a : Account). a.energy) (kept k b) ∙ subst (λ (y : Station). (get_or z.accounts (32 * u + k) no_account).energy ≡ energy_of s u y.members k) same (old.energy k b);
+        charges = subst (λ (y : Station). y.balance.charges ≡ standing_charges (day_by s u y.plant.members)) same old.charges;
+        money = λ k b. ap (λ (a : Account). a.money) (kept k b) ∙ subst (λ (y : Station). (get_or z.accounts (32 * u + k) no_account).money ≡ money_of s u y.plant.members k) same (old.money k b);
+        energy = λ k b. ap (λ (a : Account). a.energy) (kept k b) ∙ subst (λ (y : Station). (get_or z.accounts (32 * u + k) no_account).energy ≡ energy_of s u y.plant.members k) same (old.energy k b);
       }
 
   itself : Done s e t
   itself =
       let place = full.stations.placed t h in
-      let m = x.members in
+      let m = x.plant.members in
       let shared : (k : ℕ) → k < 32 → get_or e.accounts (32 * t + k) no_account ≡ account_after (day_by s t m) k (get_or z.accounts (32 * t + k) no_account) = λ k b.
       subst (λ (n : ℕ). get_or e.accounts (n + k) no_account ≡ account_after (day_by s t m) k (get_or z.accounts (n + k) no_account)) place.first
       (subst (λ (y : StationDay). get_or e.accounts (m.first + k) no_account ≡ account_after y k (get_or z.accounts (m.first + k) no_account)) day_is
       (changed_in m.first m.count after_posting z.accounts k no_account (omega (arith, place.count)) (omega (arith, place.first, full.accounts)))) in
       record {
-        charges = subst (λ (y : Station). y.charges ≡ standing_charges (day_by s t y.members)) (sym here) (ap standing_charges day_is);
-        money = λ k b. ap (λ (a : Account). a.money) (shared k b) ∙ ap (λ (y : Station). money_of s t y.members k) (sym here);
-        energy = λ k b. ap (λ (a : Account). a.energy) (shared k b) ∙ ap (λ (y : Station). energy_of s t y.members k) (sym here);
+        charges = subst (λ (y : Station). y.balance.charges ≡ standing_charges (day_by s t y.plant.members)) (sym here) (ap standing_charges day_is);
+        money = λ k b. ap (λ (a : Account). a.money) (shared k b) ∙ ap (λ (y : Station). money_of s t y.plant.members k) (sym here);
+        energy = λ k b. ap (λ (a : Account). a.energy) (shared k b) ∙ ap (λ (y : Station). energy_of s t y.plant.members k) (sym here);
       }
 
 pub settle_more : (s : Sheet) (z after : State) (r : Answer) (t : ℕ) → t < 16 → z.rules ≡ bench_rules → DoneTo t s z → Does (settling t z) r after → r ≡ Ok tt → DoneTo (t + 1) s after
@@ -119,8 +119,8 @@ all_settled s z dues shares to reports t h =
     let x = station_at z t in
     let done = to.done t h in
     record {
-      members = x.members;
+      members = x.plant.members;
       placed = to.full.stations.placed t h;
-      due = λ l. reports.due t l ∙ ap (λ (n : ℤ). x.charges +ℤ n) (to.full.stations.even t h) ∙ +ℤ_idr x.charges ∙ done.charges;
+      due = λ l. reports.due t l ∙ ap (λ (n : ℤ). x.balance.charges +ℤ n) (to.full.stations.even t h) ∙ +ℤ_idr x.balance.charges ∙ done.charges;
       share = λ k b l. reports.share (32 * t + k) l ∙ same_shares (done.money k b) (done.energy k b);
     }

@@ -33,8 +33,8 @@ energy_of s t m k = sum_to (energy_share (day_by s t m) k) 96
 -- sixteen stations, each with its generators, that have neither paid nor drawn
 pub record Sixteen (stations : List Station) : Type 0 where
   pub many : length stations ≡ 16
-  pub placed : (t : ℕ) → t < 16 → Placed t (slice_index_or stations t nobody).members
-  pub even : (t : ℕ) → t < 16 → (slice_index_or stations t nobody).net ≡ pos 0
+  pub placed : (t : ℕ) → t < 16 → Placed t (slice_index_or stations t nobody).plant.members
+  pub even : (t : ℕ) → t < 16 → (slice_index_or stations t nobody).balance.net ≡ pos 0
 
 -- a full book over the pages of a day
 pub record Full (s : Sheet) (z : State) : Type 0 where
@@ -44,9 +44,9 @@ pub record Full (s : Sheet) (z : State) : Type 0 where
 
 -- the charges of the station t stand, and its generators have their shares
 pub record Done (s : Sheet) (z : State) (t : ℕ) : Type 0 where
-  pub charges : (station_at z t).charges ≡ standing_charges (day_by s t (station_at z t).members)
-  pub money : (k : ℕ) → k < 32 → (slice_index_or z.accounts (32 * t + k) no_account).money ≡ money_of s t (station_at z t).members k
-  pub energy : (k : ℕ) → k < 32 → (slice_index_or z.accounts (32 * t + k) no_account).energy ≡ energy_of s t (station_at z t).members k
+  pub charges : (station_at z t).balance.charges ≡ standing_charges (day_by s t (station_at z t).plant.members)
+  pub money : (k : ℕ) → k < 32 → (slice_index_or z.accounts (32 * t + k) no_account).money ≡ money_of s t (station_at z t).plant.members k
+  pub energy : (k : ℕ) → k < 32 → (slice_index_or z.accounts (32 * t + k) no_account).energy ≡ energy_of s t (station_at z t).plant.members k
 
 -- the stations before n are settled
 pub record DoneTo (n : ℕ) (s : Sheet) (z : State) : Type 0 where

@@ -13,7 +13,7 @@ nothing = record { money = pos 0; energy = pos 0 }
 
 -- the dues and accounts of a book, as far as the lists go
 pub record Reports (z : State) (dues : List ℤ) (shares : List Shares) : Type 0 where
-  pub due : (t : ℕ) → t < length dues → slice_index_or dues t (pos 0) ≡ due_of (station_at z t)
+  pub due : (t : ℕ) → t < length dues → slice_index_or dues t (pos 0) ≡ due_of (station_at z t).balance
   pub share : (g : ℕ) → g < length shares → slice_index_or shares g nothing ≡ record { money = (get_or z.accounts g no_account).money; energy = (get_or z.accounts g no_account).energy }
 
 -- the station t owes the charges of its 96 blocks, and each of its generators has its shares of them

@@ -23,10 +23,9 @@ impl<T: Tariff, K: Key> Book<T, K> {
     ) -> Result<(), Fault>
         ensures { Makes (filing t from to kw) self.old pages.old self.new pages.new result }
     {
-        let mut station = self.admit(pages, t, Head::File)?;
+        self.admit(pages, t, Head::File)?;
         let kw = in_blocks(from, to, STATION_KW, kw)?;
-        station.stage.file(from as u8, to as u8);
-        self.put(t as usize, station, self.cash);
+        self.stations[t as usize].stage.file(from as u8, to as u8);
         pages.schedules[entries(t, from, to)].fill(kw);
         Ok(())
     }
@@ -43,7 +42,7 @@ impl<T: Tariff, K: Key> Book<T, K> {
                 block: u64::from(block),
             });
         }
-        self.put(t as usize, station, self.cash);
+        self.stations[t as usize].stage = station.stage;
         Ok(())
     }
 
@@ -58,10 +57,9 @@ impl<T: Tariff, K: Key> Book<T, K> {
     ) -> Result<(), Fault>
         ensures { Makes (revising t number notice values.now) self.old pages.old self.new pages.new result }
     {
-        let mut station = self.admit(pages, t, Head::Revise)?;
+        let station = self.admit(pages, t, Head::Revise)?;
         let (slot, schedule) = station.revision(number, notice, values)?;
-        station.stage.revise(slot);
-        self.put(t as usize, station, self.cash);
+        self.stations[t as usize].stage.revise(slot);
         let revised = entries(t, notice + REVISION_LEAD, BLOCKS as u64 - 1);
         pages.schedules[revised].copy_from_slice(&schedule);
         Ok(())
@@ -72,7 +70,7 @@ impl<T: Tariff, K: Key> Book<T, K> {
         ensures { Makes (closing t) self.old pages.old self.new pages.new result }
     {
         let station = self.admit(pages, t, Head::Close)?;
-        self.put(t as usize, station, self.cash);
+        self.stations[t as usize].stage = station.stage;
         Ok(())
     }
 }

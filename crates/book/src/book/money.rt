@@ -14,7 +14,7 @@ impl<T: Tariff, K: Key> Book<T, K> {
     pub fn pay(&mut self, pages: &mut Pages, t: u64, amount: u64) -> Result<(), Fault>
         ensures { Makes (payment t amount) self.old pages.old self.new pages.new result }
     {
-        let mut station = self.find_station(pages, t)?;
+        self.find_station(pages, t)?;
         sound_amount(t, amount)?;
         let cash = self.cash + amount;
         if cash > MOST_CASH {
@@ -23,8 +23,8 @@ impl<T: Tariff, K: Key> Book<T, K> {
                 cash: self.cash,
             });
         }
-        station.balance.pay(amount);
-        self.put(t as usize, station, cash);
+        self.stations[t as usize].balance.pay(amount);
+        self.cash = cash;
         Ok(())
     }
 
@@ -32,7 +32,7 @@ impl<T: Tariff, K: Key> Book<T, K> {
     pub fn draw(&mut self, pages: &mut Pages, t: u64, amount: u64) -> Result<(), Fault>
         ensures { Makes (drawing t amount) self.old pages.old self.new pages.new result }
     {
-        let mut station = self.find_station(pages, t)?;
+        let station = self.find_station(pages, t)?;
         sound_amount(t, amount)?;
         let available = station.balance.available();
         if amount > available {
@@ -47,8 +47,8 @@ impl<T: Tariff, K: Key> Book<T, K> {
                 cash: self.cash,
             });
         }
-        station.balance.draw(amount);
-        self.put(t as usize, station, self.cash - amount);
+        self.stations[t as usize].balance.draw(amount);
+        self.cash -= amount;
         Ok(())
     }
 }

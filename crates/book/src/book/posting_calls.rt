@@ -28,7 +28,7 @@ impl<T: Tariff, K: Key> Book<T, K> {
     {
         let charges = post(&self.tariff, &self.key, t as u8, station.plant.members, pages);
         station.balance.settle(charges);
-        self.put(t, station, self.cash);
+        self.stations[t] = station;
     }
 
     /// The charges and shares of station `t` are posted.

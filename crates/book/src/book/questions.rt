@@ -1,12 +1,10 @@
 //! Questions. They alter nothing.
-ghost use Rattle.std.specs.Prelude.{◌≡◌, ◌≤◌, slice_index_or};
-ghost use Rattle.book.specs.Questions.{account_answer, charge_answer, charge_refusal, progress_of, share_answer, share_refusal, Stated};
+ghost use Rattle.std.specs.Prelude.{◌≡◌, slice_index_or};
+ghost use Rattle.book.specs.Questions.{account_answer, charge_answer, charge_refusal, IsProgress, share_answer, share_refusal, Stated};
 ghost use Rattle.units.specs.Refusals.{Checks};
-ghost use Rattle.book.specs.Sound.{slots_of};
 ghost use Rattle.book.specs.States.{day_at, generator_presence, no_station_of, nobody, presence, state};
 ghost use Rattle.book.specs.Stations.{due_of};
 ghost use Rattle.posting.specs.Days.{the_day};
-ghost use Rattle.units.specs.declared.limits.TheConstants.{BLOCKS};
 
 use super::Book;
 use crate::answers::{Progress, Statement};
@@ -23,7 +21,7 @@ use units::fault::Fault;
 impl<T: Tariff, K: Key> Book<T, K> {
     /// How far the day of station `t` has come.
     pub fn progress(&self, t: u64) -> Result<Progress, Fault>
-        ensures { Checks (no_station_of self.now.stations.items t) (λ p. (p ≡ progress_of (slice_index_or self.now.stations.items t nobody).stage) × (p.filed ≤ BLOCKS) × (p.revisions ≤ slots_of (slice_index_or self.now.stations.items t nobody).plant.kind)) result }
+        ensures { Checks (no_station_of self.now.stations.items t) (IsProgress (slice_index_or self.now.stations.items t nobody)) result }
     {
         let station = self.station(t)?;
         Ok(station.stage.progress())

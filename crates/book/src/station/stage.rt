@@ -1,11 +1,10 @@
 //! How far a station's day has come: its phase, and what it filed and revised.
-ghost use Rattle.std.specs.Prelude.{◌≡◌, [], ◌∷◌};
-ghost use Rattle.book.specs.Causes.{used_slot, wrong_number};
+ghost use Rattle.std.specs.Prelude.{◌≡◌};
+ghost use Rattle.book.specs.Causes.{order_causes};
 ghost use Rattle.book.specs.Questions.{progress_of};
 ghost use Rattle.units.specs.Refusals.{Checks, first};
 ghost use Rattle.book.specs.States.{wrong_phase};
 ghost use Rattle.book.specs.Stations.{filed_on, moved, revised_in};
-ghost use Rattle.units.specs.Bits.{count_of, last_of};
 
 use crate::answers::Progress;
 use units::bits::BitSet;
@@ -60,7 +59,7 @@ impl Stage {
 
     /// Revision `number` is the next, and its slot is later than the last revision's.
     pub fn next_revision(&self, number: u64, slot: u8) -> Result<(), Fault>
-        ensures { Checks (first (wrong_number number (count_of self.now.slots.bits) ∷ used_slot slot (last_of self.now.slots.bits) ∷ [])) (λ _. Unit {0}) result }
+        ensures { Checks (first (order_causes number slot self.now)) (λ _. Unit {0}) result }
     {
         let next = u64::from(self.slots.count()) + 1;
         if number != next {

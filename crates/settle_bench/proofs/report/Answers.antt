@@ -17,7 +17,7 @@ pub loop-t-preserved : goal.loop-t-preserved
 loop-t-preserved c =
     let z = c.in_ok-due.field-0 in
     let fits : SFits w64 z = search rules in
-    written (λ t. due_of (get_or c.args.book.now.stations.items t nobody)) c.loop-t.dues c.loop-t.t _ (pos 0) (omega arith) c.loop-t.invariant (to_z-of_z w64 z fits ∙ c.in_ok-due.ensures.1)
+    written (λ t. due_of (get_or c.args.book.now.stations.items t nobody).balance) c.loop-t.dues c.loop-t.t _ (pos 0) (omega arith) c.loop-t.invariant (to_z-of_z w64 z fits ∙ c.in_ok-due.ensures.1)
 
 pub loop-g-preserved : goal.loop-g-preserved
 loop-g-preserved c =

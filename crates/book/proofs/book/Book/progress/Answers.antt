@@ -20,4 +20,4 @@ returns g c =
     let slots = ap (λ (p : Progress). p.revisions) same in
     let days = count_low BLOCKS old.stage.filed.bits sound.in_day (omega arith) in
     let uses = count_low (slots_of old.plant.kind) old.stage.slots.bits sound.in_slots (slots_few old.plant.kind) in
-    (at.0, (same, omega (arith, filed, days), omega (arith, slots, uses)))
+    (at.0, record { is = same; filed = omega (arith, filed, days); revisions = omega (arith, slots, uses) })
