@@ -1,7 +1,7 @@
 -- The laws of the key by the square.
 use Rattle.std.specs.Prelude.{ℕ, ◌*◌, ◌<◌, ◌≤◌, List, [], ◌∷◌, length, sum}
 use Rattle.rule_tests.specs.Square.{by_square}
-use Rattle.share.specs.Keys.{IsLoadInRange, largest, totals, weights}
+use Rattle.share.specs.Keys.{NeverAboveLargest, NeverVanish}
 use Rattle.share.specs.declared.load.Load.{Load}
 use Rattle.std.proofs.Common.{arith, mul-le-mul_left}
 use Rattle.std.proofs.lemmas.Grind.{div_ceil_times}
@@ -21,9 +21,9 @@ ceil_some n some =
     let one : n * 1 ≤ n * n = mul-le-mul_left n some in
     omega (arith, bounds.0)
 
-pub square_bounded : (own station : Load) → IsLoadInRange own → IsLoadInRange station → by_square own station ≤ largest own
+pub square_bounded : NeverAboveLargest by_square
 square_bounded own station low all = omega (arith, ceil_small own.installed low.installed)
 
-pub square_alive : (ls : List Load) → 0 < length ls → AllByRecursion (λ l. (0 < l.installed) × IsLoadInRange l) ls → IsLoadInRange (totals ls) → 0 < sum (weights by_square ls)
+pub square_alive : NeverVanish by_square
 square_alive [] some own all = omega arith
-square_alive (l ∷ ls) some own all = rw sum-map (rw sum_by-cons (omega (arith, ceil_some l.installed own.0.0)))
+square_alive (l ∷ ls) some own all = rw sum-map (rw sum_by-cons (omega (arith, ceil_some l.installed own.0.some)))

@@ -1,16 +1,16 @@
 -- The weights of the two keys do not all vanish.
 use Rattle.std.specs.Prelude.{◌≡◌, ◌<◌, Bool, true, false, cond, List, [], ◌∷◌, length, sum_by, sum, nat_lt, refl}
-use Rattle.share.specs.Keys.{IsLoadInRange, totals, weights, by_capacity, by_units}
+use Rattle.share.specs.Keys.{IsBuilt, IsLoadInRange, totals, weights, by_capacity, by_units}
 use Rattle.share.specs.declared.load.Load.{Load}
 use Rattle.std.proofs.lemmas.List.Sums.{sum_by-cons, sum-map}
 use Rattle.std.specs.List.{AllByRecursion}
 use Rattle.std.proofs.Common.{ltb-true, arith}
 
-installed_alive : (ls : List Load) → 0 < length ls → AllByRecursion (λ l. (0 < l.installed) × IsLoadInRange l) ls → 0 < sum_by (λ l. l.installed) ls
+installed_alive : (ls : List Load) → 0 < length ls → AllByRecursion IsBuilt ls → 0 < sum_by (λ l. l.installed) ls
 installed_alive [] some built = omega arith
-installed_alive (l ∷ ls) some built = rw sum_by-cons (omega (arith, built.0.0))
+installed_alive (l ∷ ls) some built = rw sum_by-cons (omega (arith, built.0.some))
 
-module _ (ls : List Load) (some : 0 < length ls) (built : AllByRecursion (λ l. (0 < l.installed) × IsLoadInRange l) ls) (whole : IsLoadInRange (totals ls)) where
+module _ (ls : List Load) (some : 0 < length ls) (built : AllByRecursion IsBuilt ls) (whole : IsLoadInRange (totals ls)) where
   by_installed : 0 < sum_by (λ l. l.installed) ls
   by_installed = installed_alive ls some built
 

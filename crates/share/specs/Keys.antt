@@ -9,7 +9,11 @@ largest l = max l.actual (max l.capacity l.installed)
 
 -- a station's totals
 abbrev pub totals : List Load → Load
-totals ls = record { actual = sum_by (λ l. l.actual) ls; capacity = sum_by (λ l. l.capacity) ls; installed = sum_by (λ l. l.installed) ls }
+totals ls = record {
+  actual = sum_by (λ l. l.actual) ls;
+  capacity = sum_by (λ l. l.capacity) ls;
+  installed = sum_by (λ l. l.installed) ls;
+}
 
 -- the weights by a key w, which takes a generator's own numbers and the totals
 abbrev pub weights : (Load → Load → ℕ) → List Load → List ℕ
@@ -21,12 +25,23 @@ pub record IsLoadInRange (l : Load) : Type 0 where
   pub capacity : l.capacity ≤ STATION_KW
   pub installed : l.installed ≤ STATION_KW
 
--- Over one generator or more, each with some power installed, the weights by w do not all vanish.
--- That is asked of loads in range alone, with totals in range.
+-- such power of a generator that has some installed
+pub record IsBuilt (l : Load) : Type 0 where
+  pub some : 0 < l.installed
+  pub range : IsLoadInRange l
+
+-- The weight of a generator by w is at most the largest of its own numbers, where these and the
+-- totals are in range.
+abbrev pub NeverAboveLargest : (Load → Load → ℕ) → Type 0
+NeverAboveLargest w =
+    (own station : Load) → IsLoadInRange own → IsLoadInRange station → w own station ≤ largest own
+
+-- Over one generator or more, each with some power installed, the weights by w do not all vanish,
+-- where the numbers of each and the totals are in range.
 abbrev pub NeverVanish : (Load → Load → ℕ) → Type 0
 NeverVanish w =
-    (ls : List Load) → 0 < length ls → AllByRecursion (λ l. (0 < l.installed) × IsLoadInRange l) ls
-    → IsLoadInRange (totals ls) → 0 < sum (weights w ls)
+    (ls : List Load) → 0 < length ls → AllByRecursion IsBuilt ls → IsLoadInRange (totals ls)
+    → 0 < sum (weights w ls)
 
 abbrev pub by_capacity : Load → Load → ℕ
 by_capacity own station = cond (nat_lt 0 station.capacity) own.capacity own.installed

@@ -8,7 +8,8 @@ use Rattle.units.specs.declared.limits.TheConstants.{GENERATORS, GENERATOR_KW, L
 abbrev pub nearest_installed : ℕ → ℕ
 nearest_installed n = max LEAST_INSTALLED (min n MOST_INSTALLED)
 
--- each number as the nearest one allowed: no capacity is above what is installed, no actual above 200,000 kW
+-- each number as the nearest one allowed: no capacity is above what is installed, and no actual
+-- above 200,000 kW
 abbrev pub nearest_load : ℕ → ℕ → ℕ → Load
 nearest_load installed capacity actual = record {
   actual = min actual GENERATOR_KW;

@@ -20,7 +20,7 @@ abbrev pub shares_from : ℤ → ℕ → ℕ → List ℕ → List ℤ
 shares_from m w s [] = []
 shares_from m w s (x ∷ xs) = next_share m w s x ∷ shares_from m w (s + x) xs
 
--- the first k shares together are the part of m for the sum of the first k weights, out of the sum of all
+-- the first k shares together are the part of m for the sum of the first k weights, out of all
 abbrev pub shares : ℤ → List ℕ → List ℤ
 shares m ws = shares_from m (sum ws) 0 ws
 
@@ -28,7 +28,8 @@ abbrev pub together : List ℤ → ℤ
 together [] = pos 0
 together (x ∷ xs) = x +ℤ together xs
 
--- the numbers that an amount is split over: at most GENERATORS, which add up to more than nothing and to less than 2 ^ 64
+-- Numbers that an amount is split over: at most GENERATORS. They add up to more than nothing and to
+-- less than 2 ^ 64.
 pub record AreWeights (ws : List ℕ) : Type 0 where
   pub few : length ws ≤ GENERATORS
   pub some : 0 < sum ws
@@ -39,6 +40,9 @@ pub record Fair (m : ℤ) (ws : List ℕ) : Type 0 where
   -- together they are the amount
   pub whole : together (shares m ws) ≡ m
   -- the first k together are the part of the first k weights
-  pub front : (k : ℕ) → k ≤ length ws → together (take k (shares m ws)) ≡ part m (sum (take k ws)) (sum ws)
+  pub front : (k : ℕ) → k ≤ length ws
+      → together (take k (shares m ws)) ≡ part m (sum (take k ws)) (sum ws)
   -- each lies less than one unit from its exact proportion
-  pub close : (k : ℕ) → k < length ws → unsigned_abs (slice_index_or (shares m ws) k (pos 0) *ℤ pos (sum ws) -ℤ m *ℤ pos (slice_index ws k)) < sum ws
+  pub close : (k : ℕ) → k < length ws
+      → unsigned_abs (slice_index_or (shares m ws) k (pos 0) *ℤ pos (sum ws)
+      -ℤ m *ℤ pos (slice_index ws k)) < sum ws

@@ -1,23 +1,26 @@
 //! How a station's amounts are split: a key gives each generator a weight.
-ghost use Rattle.std.specs.Prelude.{◌≡◌, ℕ, ◌≤◌};
-ghost use Rattle.share.specs.Keys.{IsLoadInRange, NeverVanish, by_capacity, by_units, largest};
+ghost use Rattle.std.specs.Prelude.{◌≡◌, ℕ};
+ghost use Rattle.share.specs.Keys.{NeverAboveLargest, NeverVanish, by_capacity, by_units};
 ghost use Rattle.share.specs.declared.load.Load.{Load};
 ghost use Rattle.share.specs.Alive.{units_alive, capacity_alive};
 ghost use Rattle.std.proofs.Common.{rules};
 
 use crate::load::Load;
 
-/// A weight for a generator, from its own three numbers and the station's three totals alone.
+/// A weight for a generator, from its own three numbers and the station's three totals alone, in kW
+/// (docs/RULES.md, "Keys and shares").
 pub trait Key {
     ghost weighs: { Load → Load → ℕ };
 
     fn weight(&self, own: &Load, station: &Load) -> u32
         ensures { result ≡ weighs own.now station.now };
 
-    // Where the generator's numbers and the totals are at most STATION_KW, a weight is at most the largest of the generator's numbers.
-    ghost bounded: { (own station : Load) → IsLoadInRange own → IsLoadInRange station → weighs own station ≤ largest own };
+    // The laws speak of numbers and totals up to STATION_KW: more, a station never has.
 
-    // Over one generator or more, each with some power installed, the weights do not all vanish, where these numbers and the totals are at most STATION_KW.
+    // A weight is at most the largest of the generator's own numbers.
+    ghost bounded: { NeverAboveLargest weighs };
+
+    // Over one generator or more, each with some power installed, the weights do not all vanish.
     ghost alive: { NeverVanish weighs };
 }
 

@@ -4,7 +4,7 @@ ghost use Rattle.share.specs.Shares.{next_share};
 
 use crate::magnitude::{part_of, signed};
 
-/// An amount that is split over weights: the weights so far have the sum `sum`, and all have `total`.
+/// An amount that is split over weights: those so far have the sum `sum`, and all have `total`.
 /// The shares so far together are `part`, under the amount's sign.
 #[derive(Clone, Copy)]
 pub struct Splitter {

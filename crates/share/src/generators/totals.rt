@@ -26,7 +26,8 @@ fn load_of(each: &[Generator]) -> Load
 impl<'a> Generators<'a> {
     /// A station's generators, if there are 1 to 32 of them.
     pub fn of(each: &'a [Generator]) -> Option<Generators<'a>>
-        ensures { MatchOption result (Few each.now → ⊥) (λ gs. Few each.now × (gs.each.now ≡ each.now)) }
+        ensures { MatchOption result (Few each.now → ⊥)
+            (λ gs. Few each.now × (gs.each.now ≡ each.now)) }
     {
         if each.is_empty() || each.len() > GENERATORS {
             return None;

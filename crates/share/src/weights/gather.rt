@@ -22,9 +22,11 @@ fn weight_of<K: Key>(key: &K, generator: &Generator, station: &Load) -> u32
 }
 
 impl Weights {
-    /// These weights, in their order. `None` if there are more than 32, or if they add up to nothing or to 2^64 or more.
+    /// These weights, in their order (docs/RULES.md, "Keys and shares").
+    /// `None` if there are more than 32, or if they add up to nothing or to 2^64 or more.
     pub fn given(each: &[u64]) -> Option<Weights>
-        ensures { MatchOption result (AreWeights each.now → ⊥) (λ w. AreWeights each.now × (held w ≡ each.now)) }
+        ensures { MatchOption result (AreWeights each.now → ⊥)
+            (λ w. AreWeights each.now × (held w ≡ each.now)) }
     {
         if each.len() > GENERATORS {
             return None;
@@ -45,7 +47,8 @@ impl Weights {
         })
     }
 
-    /// The weight that the key gives each generator. They add up to at most 6,400,000.
+    /// The weight that the key gives each generator, in their order: together at most 6,400,000, the
+    /// most kW that a station has (docs/RULES.md, "Keys and shares").
     pub fn of<K: Key>(key: &K, generators: &Generators) -> Weights
         ensures value { held result ≡ weights K.Key.weighs (loads generators.now.each.now) }
         ensures small { sum (held result) ≤ STATION_KW }

@@ -34,7 +34,7 @@ impl Weights {
 
     /// The share of each weight, in their order.
     /// The first shares together are the part of the amount that the first weights make of all,
-    /// its magnitude rounded down.
+    /// its magnitude rounded down (docs/RULES.md, "Keys and shares").
     pub fn split(&self, amount: i64) -> ArrayVec<i64, GENERATORS>
         ensures shares { result.items ≡ shares amount (held self.now) }
         ensures fair { Fair amount (held self.now) }
@@ -75,7 +75,8 @@ fn paired(money: &[i64], energy: &[i64]) -> ArrayVec<Amounts, GENERATORS>
 
 /// An amount split among a station's generators by any key: whatever the key, the shares are fair.
 pub fn split_by<K: Key>(key: &K, generators: &Generators, amount: i64) -> ArrayVec<i64, GENERATORS>
-    ensures shares { result.items ≡ shares amount (weights K.Key.weighs (loads generators.now.each.now)) }
+    ensures shares { result.items
+        ≡ shares amount (weights K.Key.weighs (loads generators.now.each.now)) }
     ensures fair { Fair amount (weights K.Key.weighs (loads generators.now.each.now)) }
 {
     Weights::of(key, generators).split(amount)

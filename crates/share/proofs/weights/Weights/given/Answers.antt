@@ -6,4 +6,4 @@ returns c =
     let loop = c.loop-weight.invariant in
     let all = loop.front ∙ take_all _ _ (omega arith) in
     let whole = loop.total_is ∙ ap sum all in
-    (record { few = omega arith; some = omega (arith, whole); fit = omega (arith, whole) }, all)
+    (record { few = loop.few; some = omega (arith, whole); fit = omega (arith, whole) }, all)

@@ -1,17 +1,6 @@
 use Rattle.std.proofs.Common.{arith}
-use Rattle.share.proofs.Walks.{some_weight, weight_small, weights_all}
+use Rattle.share.proofs.Walks.{some_weight, small_weights, weights_all}
 use Rattle.share.proofs.weights.Weights.of.Goals as goal
-use Rattle.std.proofs.lemmas.Grind.{common_steps}
-
-pub loop-generator-preserved : goal.loop-generator-preserved
-loop-generator-preserved g c =
-    let gs = c.args.generators.now.each.now in
-    let low = weight_small g.K.Key.weighs g.met.K.Key.bounded gs (omega arith) c.generator-item.result c.load-station.result c.load-station.ensures in
-    record {
-      front = grind (arith, common_steps);
-      total_is = grind (arith, common_steps);
-      small = omega (arith, low, c.weight_of.ensures);
-    }
 
 pub inverse_of-requires : goal.inverse_of-requires
 inverse_of-requires g c =
@@ -35,3 +24,11 @@ invariant_of-result g c =
 pub returns-clause-value : goal.returns-clause-value
 returns-clause-value g c =
     weights_all g.K.Key.weighs c.args.generators.now.each.now _ _ _ _ c.each-generator-items.ensures c.loop-generator-test.false c.load-station.ensures c.loop-generator.invariant.front
+
+pub returns-clause-small : goal.returns-clause-small
+returns-clause-small g c =
+    let w = g.K.Key.weighs in
+    let gs = c.args.generators.now.each.now in
+    let loop = c.loop-generator in
+    let all = weights_all w gs _ _ _ _ c.each-generator-items.ensures c.loop-generator-test.false c.load-station.ensures loop.invariant.front in
+    small_weights w g.met.K.Key.bounded gs (omega arith) _ all

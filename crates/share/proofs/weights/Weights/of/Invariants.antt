@@ -1,10 +1,9 @@
-use Rattle.std.proofs.Common.{◌≡◌, ◌*◌, ◌≤◌, map, take, sum}
+use Rattle.std.proofs.Common.{◌≡◌, ◌*◌, ◌^◌, ◌≤◌, map, take, sum}
 use Rattle.share.proofs.weights.Weights.of.Given as goal
-use Rattle.units.specs.declared.limits.TheConstants.{GENERATOR_KW}
 
 abbrev pub invariant-loop-generator : goal.invariant-loop-generator
 invariant-loop-generator g l = record {
   front : l.each.items ≡ map (λ x. g.K.Key.weighs x.load l.station) (take l.generator-index l.generators.each.now);
   total_is : l.total ≡ sum l.each.items;
-  small : l.total ≤ GENERATOR_KW * l.generator-index;
+  small : l.total ≤ 2 ^ 32 * l.generator-index;
 }
