@@ -1,3 +1,4 @@
+pub mod Layered
 pub mod Penalties
-pub mod Waivers
 pub mod PenaltiesLemmas
+pub mod Waivers

@@ -1,17 +1,15 @@
 -- A penalty for one station that declared a wrong capacity.
-use Rattle.std.specs.Prelude.{ℕ, ◌*◌, ◌&&◌, Bool, List, [], ◌∷◌, ℤ, pos, negsuc, Some, None, Option, is_none, if◌then◌else◌, ◌==◌, nat_lt, slice_index_or}
+use Rattle.std.specs.Prelude.{ℕ, ◌*◌, ◌≤◌, ◌&&◌, Bool, List, filter_map, find, ℤ, pos, negsuc, Some, None, Option, IfSome, is_none, if◌then◌else◌, ◌==◌, nat_lt, slice_index_or}
 use Rattle.layers.specs.declared.penalty.TheConstants.{HIGHEST_BELOW, PENALTY_FACTOR}
 use Rattle.tariff.specs.Ranges.{in_range}
 use Rattle.tariff.specs.declared.query.Query.{Query}
 use Rattle.units.specs.declared.fault.Fault.TheVariants.{BadPenalty}
 use Rattle.units.specs.declared.fault.Fault.{Fault}
-use Rattle.units.specs.declared.limits.TheConstants.{STATION_KW}
+use Rattle.units.specs.declared.limits.TheConstants.{HIGHEST_CEILING, STATION_KW}
 
 -- The first capacity that no station has, in block order.
 abbrev pub first_one_above : List (Option ℕ) → Option ℕ
-first_one_above [] = None
-first_one_above (None ∷ due) = first_one_above due
-first_one_above (Some kw ∷ due) = if nat_lt STATION_KW kw then Some kw else first_one_above due
+first_one_above due = find (λ kw. nat_lt STATION_KW kw) (filter_map (λ capacity. capacity) due)
 
 abbrev pub bad_capacity : Option ℕ → Option Fault
 bad_capacity None = None
@@ -25,6 +23,15 @@ penalty_refused ceiling due =
 -- Whether there is no reason against the penalty.
 abbrev pub applies : ℕ → List (Option ℕ) → Bool
 applies ceiling due = is_none (penalty_refused ceiling due)
+
+-- The same in the subject's words. Each capacity is one that a station can have.
+pub record AreCapacities (due : List (Option ℕ)) : Type 0 where
+  pub each : (block : ℕ) → IfSome (slice_index_or due block None) (λ kw. kw ≤ STATION_KW)
+
+-- A penalty may stand over a tariff with this ceiling: its own is still one.
+pub record MayStand (ceiling : ℕ) (due : List (Option ℕ)) : Type 0 where
+  pub low : PENALTY_FACTOR * ceiling ≤ HIGHEST_CEILING
+  pub capacities : AreCapacities due
 
 -- What is payable, multiplied, and nothing of what is receivable.
 abbrev pub multiplied : ℤ → ℤ

@@ -1,9 +1,9 @@
 -- What a penalty keeps of the laws below it.
-use Rattle.std.specs.Prelude.{◌≡◌, ℕ, zero, suc, ◌*◌, ◌≤◌, Bool, true, false, cond, List, [], ◌∷◌, ℤ, pos, negsuc, Some, None, Option, IfSome, refl, is_none, ◌==◌, nat_lt, slice_index_or, unsigned_abs}
-use Rattle.layers.specs.Penalties.{applies, at_capacity, bad_capacity, corrected, due_capacity, first_one_above, multiplied, penal, raised}
+use Rattle.std.specs.Prelude.{◌≡◌, ℕ, zero, suc, ◌*◌, ◌≤◌, ◌↔◌, Bool, true, false, cond, List, [], ◌∷◌, ℤ, pos, negsuc, Some, None, Option, IfSome, refl, is_none, ◌==◌, nat_lt, slice_index_or, unsigned_abs}
+use Rattle.layers.specs.Penalties.{AreCapacities, MayStand, applies, at_capacity, bad_capacity, corrected, due_capacity, first_one_above, multiplied, penal, penalty_refused, raised}
 use Rattle.layers.specs.declared.penalty.TheConstants.{HIGHEST_BELOW, PENALTY_FACTOR}
-use Rattle.std.proofs.Common.{arith, mul_assoc}
-use Rattle.std.proofs.lemmas.Bool.{cond_both, ltb-false}
+use Rattle.std.proofs.Common.{ap, ◌∙◌, arith, mul_assoc}
+use Rattle.std.proofs.lemmas.Bool.{cond-false, cond_both, le-ltb, ltb-false}
 use Rattle.tariff.specs.Charges.{magnitude}
 use Rattle.tariff.specs.Ranges.{IsInRange}
 use Rattle.tariff.specs.RangesLemmas.{in_range-true}
@@ -28,16 +28,33 @@ entry_low (None ∷ due) (suc i) none = entry_low due i none
 entry_low (Some kw ∷ due) zero none = ltb-false _ _ (goes_on (nat_lt STATION_KW kw) kw (first_one_above due) none).0
 entry_low (Some kw ∷ due) (suc i) none = entry_low due i (goes_on (nat_lt STATION_KW kw) kw (first_one_above due) none).1
 
-no_reason : (b : Bool) (f : Fault) (o : Option ℕ) → is_none (cond b (Some f) (bad_capacity o)) ≡ true → o ≡ None
+pub none_above : (due : List (Option ℕ)) → AreCapacities due → first_one_above due ≡ None
+none_above [] low = refl
+none_above (None ∷ due) low = none_above due (record { each = λ i. low.each (suc i) })
+none_above (Some kw ∷ due) low = cond-false _ _ _ (le-ltb STATION_KW kw (low.each 0)) ∙ none_above due (record { each = λ i. low.each (suc i) })
+
+no_reason : (b : Bool) (f : Fault) (o : Option ℕ) → cond b (Some f) (bad_capacity o) ≡ None → (b ≡ false) × (o ≡ None)
 no_reason true f o h = absurd cc
-no_reason false f None h = refl
+no_reason false f None h = (refl, refl)
 no_reason false f (Some kw) h = absurd cc
+
+-- there is no reason against a penalty exactly where it may stand
+pub penalty_refused-none : (ceiling : ℕ) (due : List (Option ℕ)) → (penalty_refused ceiling due ≡ None) ↔ MayStand ceiling due
+penalty_refused-none ceiling due = (stands, λ m. cond-false _ _ _ (le-ltb HIGHEST_BELOW ceiling (omega (arith, m.low))) ∙ ap bad_capacity (none_above due m.capacities)) where
+  stands : penalty_refused ceiling due ≡ None → MayStand ceiling due
+  stands h =
+      let none = no_reason (nat_lt HIGHEST_BELOW ceiling) (BadPenalty ceiling) (first_one_above due) h in
+      record { low = omega (arith, ltb-false HIGHEST_BELOW ceiling none.0); capacities = record { each = λ block. entry_low due block none.1 } }
+
+none_is : (o : Option Fault) → is_none o ≡ true → o ≡ None
+none_is None h = refl
+none_is (Some f) h = absurd cc
 
 -- where a penalty applies, no capacity that is due is too high
 applied_low : (ceiling station : ℕ) (due : List (Option ℕ)) (q : Query) → applies ceiling due ≡ true → IsLow (due_capacity station due q)
 applied_low ceiling station due q h =
-    let none = no_reason (nat_lt HIGHEST_BELOW ceiling) (BadPenalty ceiling) (first_one_above due) h in
-    cond_both (q.station == station) _ None IsLow (λ _. entry_low due q.block none) (λ _. tt)
+    let m = (penalty_refused-none ceiling due).0 (none_is (penalty_refused ceiling due) h) in
+    cond_both (q.station == station) _ None IsLow (λ _. m.capacities.each q.block) (λ _. tt)
 
 -- the question at a capacity that a station can have
 at_low : (q : Query) (kw : ℕ) → IsInRange q → kw ≤ STATION_KW → IsInRange (at_capacity kw q)

@@ -1,6 +1,7 @@
 //! What a caller learns of a layered tariff.
-ghost use Rattle.std.specs.Prelude.{◌≡◌};
+ghost use Rattle.std.specs.Prelude.{◌≡◌, IfOk};
 ghost use Rattle.tariff.specs.Bands.{banded_charge};
+ghost use Rattle.layers.specs.Layered.{Layered};
 ghost use Rattle.layers.specs.Penalties.{penal, penalty_refused};
 ghost use Rattle.layers.specs.Waivers.{waived};
 ghost use Rattle.units.specs.Refusals.{Checks};
@@ -22,7 +23,8 @@ pub fn layered_charge(
     disturbed: BitSet,
     query: Query,
 ) -> Result<i64, Fault>
-    ensures { let penalised = penal BANDED_CEILING station due (banded_charge bands) in
+    ensures rules { IfOk result (λ z. Layered disturbed.bits station due (banded_charge bands) query z) }
+    ensures value { let penalised = penal BANDED_CEILING station due (banded_charge bands) in
         Checks (penalty_refused BANDED_CEILING due)
         (λ charge. charge ≡ waived disturbed.bits penalised query) result }
 {

@@ -1,5 +1,5 @@
-ghost use Rattle.std.specs.Prelude.{◌≡◌, ◌≤◌, IfSome, None, slice_index_or, unsigned_abs};
-ghost use Rattle.layers.specs.Penalties.{applies, bad_capacity, due_capacity, first_one_above, multiplied, penal, penalty_refused, raised};
+ghost use Rattle.std.specs.Prelude.{◌≡◌, ◌≤◌, ◌↔◌, IfSome, IsOk, None, slice_index_or, unsigned_abs};
+ghost use Rattle.layers.specs.Penalties.{AreCapacities, MayStand, applies, bad_capacity, due_capacity, first_one_above, multiplied, penal, penalty_refused, raised};
 ghost use Rattle.layers.specs.PenaltiesLemmas.{penal_settled, penal_bounded};
 ghost use Rattle.units.specs.Refusals.{Checks};
 ghost use Rattle.std.proofs.Common.{rules};
@@ -16,7 +16,7 @@ const PENALTY_FACTOR: u32 = 3;
 const HIGHEST_BELOW: u32 = HIGHEST_CEILING / PENALTY_FACTOR;
 
 /// For each block, the capacity that should have been declared, if another was: none that no station has.
-#[derive(Clone, Copy)]
+#[derive(Drop)]
 struct DueCapacities {
     blocks: [Option<u32>; BLOCKS],
     ghost low: { first_one_above blocks ≡ None },
@@ -24,7 +24,7 @@ struct DueCapacities {
 
 /// A tariff that charges one station threefold in the blocks for which it declared a wrong capacity.
 /// It changes no charge of a query outside the range. Over a ceiling above 3,333 it changes nothing, and `new` makes none.
-#[derive(Clone, Copy)]
+#[derive(Drop)]
 pub struct Penalty<T> {
     below: T,
     station: u8,
@@ -44,15 +44,16 @@ fn first_above(due: &[Option<u32>; BLOCKS]) -> Option<u32>
     ensures { result ≡ first_one_above due.now }
 {
     due.iter()
-        .copied()
-        .find(|capacity| capacity.is_some_and(|kw| kw > STATION_KW))
-        .flatten()
+        .filter_map(|capacity| *capacity)
+        .find(|kw| *kw > STATION_KW)
 }
 
 impl DueCapacities {
     /// The capacities, or the first against which there is a reason.
+    #[tactic(auto, using(crate::specs::PenaltiesLemmas::entry_low, crate::specs::PenaltiesLemmas::none_above))]
     fn new(due: [Option<u32>; BLOCKS]) -> Result<DueCapacities, Fault>
-        ensures { Checks (bad_capacity (first_one_above due)) (λ c. c.blocks ≡ due) result }
+        ensures limits { IsOk result ↔ AreCapacities due }
+        ensures value { Checks (bad_capacity (first_one_above due)) (λ c. c.blocks ≡ due) result }
     {
         match first_above(&due) {
             Some(kw) => Err(Fault::BadPenalty {
@@ -73,7 +74,8 @@ impl DueCapacities {
 impl<T: Tariff + Drop> Penalty<T> {
     /// A penalty over `below`, or the first reason against it: the ceiling, then the capacities in block order.
     pub fn new(below: T, station: u8, due: [Option<u32>; BLOCKS]) -> Result<Penalty<T>, Fault>
-        ensures { Checks (penalty_refused (T.Tariff.ceiling_of below) due)
+        ensures limits { IsOk result ↔ MayStand (T.Tariff.ceiling_of below) due }
+        ensures value { Checks (penalty_refused (T.Tariff.ceiling_of below) due)
             (λ p. (p.below ≡ below) × (p.station ≡ station) × (p.due.blocks ≡ due)) result }
     {
         let ceiling = below.ceiling();

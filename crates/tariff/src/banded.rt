@@ -19,7 +19,7 @@ const HIGH_RATE: u64 = 150;
 pub const BANDED_CEILING: u32 = (HIGH_RATE as u32 + 3) / 4;
 
 /// Where the three bands of deviation begin, in percent of the capacity.
-#[derive(Clone, Copy)]
+#[derive(Drop)]
 pub struct Edges {
     pub first: u32,
     pub second: u32,

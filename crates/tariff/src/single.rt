@@ -1,4 +1,4 @@
-ghost use Rattle.std.specs.Prelude.{◌≡◌, ◌<◌, ◌≤◌, MatchResult};
+ghost use Rattle.std.specs.Prelude.{◌≡◌, ◌<◌, ◌≤◌, ◌↔◌, IsOk, MatchResult};
 ghost use Rattle.tariff.specs.Rates.{larger_rate, rate_refused, single};
 ghost use Rattle.units.specs.Refusals.{Checks};
 ghost use Rattle.units.specs.declared.fault.Fault.TheVariants.{HighRate};
@@ -38,7 +38,9 @@ fn checked_rate(rate: u32) -> Result<(), Fault>
 impl SingleRate {
     /// A tariff of two rates, or the first of them that is above 4,000.
     pub fn new(export: u32, domestic: u32) -> Result<SingleRate, Fault>
-        ensures { Checks (rate_refused export domestic) (λ t. (t.export ≡ export) × (t.domestic ≡ domestic)) result }
+        ensures limits { IsOk result ↔ ((export ≤ HIGHEST_RATE) × (domestic ≤ HIGHEST_RATE)) }
+        ensures value { Checks (rate_refused export domestic)
+            (λ t. (t.export ≡ export) × (t.domestic ≡ domestic)) result }
     {
         checked_rate(export)?;
         checked_rate(domestic)?;

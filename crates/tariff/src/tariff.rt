@@ -31,15 +31,12 @@ pub trait Tariff {
         ensures { result ≡ code_of self.now };
 
     /// A station that keeps its schedule owes nothing.
-    ghost settled: {
-        (t : Self) (q : Query) → IsInRange q → q.actual ≡ q.schedule → charge_of t q ≡ pos 0
-    };
+    ghost settled: { (t : Self) (q : Query) → IsInRange q → q.actual ≡ q.schedule
+        → charge_of t q ≡ pos 0 };
 
     /// No kW of deviation costs or earns more than the ceiling.
-    ghost bounded: {
-        (t : Self) (q : Query) → IsInRange q
-        → unsigned_abs (charge_of t q) ≤ ceiling_of t * magnitude q
-    };
+    ghost bounded: { (t : Self) (q : Query) → IsInRange q
+        → unsigned_abs (charge_of t q) ≤ ceiling_of t * magnitude q };
 
     /// A ceiling is at most 10,000 paise.
     ghost capped: { (t : Self) → ceiling_of t ≤ HIGHEST_CEILING };
