@@ -15,10 +15,11 @@ use Rattle.share.specs.declared.key.Key as key
 use Rattle.spell.specs.Answers.{answer_text, answering}
 use Rattle.spell.specs.Causes.{short_page}
 use Rattle.spell.specs.Pages.{Wrote, onto, writing, wrote}
+use Rattle.spell.specs.declared.answers.TheConstants.{ANSWER_PAGE}
 use Rattle.tariff.specs.declared.tariff.Tariff as tariff
 use Rattle.units.specs.declared.fault.Fault.{Fault}
 
-pub written : (a : Answer) (out out' : List ℕ) (r : Result ℕ Fault) → short_page 64 out ≡ None → wrote r out' ≡ answering a out → wrote r out' ≡ wrote (Ok (length (answer_text a))) (onto (answer_text a) out)
+pub written : (a : Answer) (out out' : List ℕ) (r : Result ℕ Fault) → short_page ANSWER_PAGE out ≡ None → wrote r out' ≡ answering a out → wrote r out' ≡ wrote (Ok (length (answer_text a))) (onto (answer_text a) out)
 written a out out' r room e = e ∙ ap (λ s. writing s (answer_text a) out) room
 
 module _ {T K : Type 0} {prices : tariff.Ghosts T} {keys : key.Ghosts K} where
@@ -32,7 +33,7 @@ module _ {T K : Type 0} {prices : tariff.Ghosts T} {keys : key.Ghosts K} where
   pub handled_taken : (line : List ℕ) (b b' : Book T K prices keys) (p p' : Pages) (c : Call) (r : Answer) → ReadsCall line (Ok c) → Makes (step c) b p b' p' r → Handled line b p b' p' r
   handled_taken line b b' p p' c r reads makes = record { taken = Ok c; reads = reads; makes = makes }
 
-  pub line_refused : (line out : List ℕ) (b : Book T K prices keys) (p : Pages) (f : Fault) (r : Result ℕ Fault) → short_page 64 out ≡ Some f → r ≡ Err f → Lined line out b p b p out r
+  pub line_refused : (line out : List ℕ) (b : Book T K prices keys) (p : Pages) (f : Fault) (r : Result ℕ Fault) → short_page ANSWER_PAGE out ≡ Some f → r ≡ Err f → Lined line out b p b p out r
   line_refused line out b p f r short is =
       let taken : Taken (text line (length out)) (Err f) = subst (λ m. Read m line (Err f)) (sym short) refl in
       record {
@@ -44,7 +45,7 @@ module _ {T K : Type 0} {prices : tariff.Ghosts T} {keys : key.Ghosts K} where
         next = came_more (text line (length out)) (Err f) (Err f) b b p p taken (refused b p f);
       }
 
-  pub line_answered : (line out out' : List ℕ) (b b' : Book T K prices keys) (p p' : Pages) (a : Answer) (r : Result ℕ Fault) → short_page 64 out ≡ None → Handled line b p b' p' a → wrote r out' ≡ answering a out
+  pub line_answered : (line out out' : List ℕ) (b b' : Book T K prices keys) (p p' : Pages) (a : Answer) (r : Result ℕ Fault) → short_page ANSWER_PAGE out ≡ None → Handled line b p b' p' a → wrote r out' ≡ answering a out
       → Lined line out b p b' p' out' r
   line_answered line out out' b b' p p' a r room handled e =
       let taken : Taken (text line (length out)) handled.taken = subst (λ m. Read m line handled.taken) (sym room) handled.reads in
@@ -60,14 +61,14 @@ module _ {T K : Type 0} {prices : tariff.Ghosts T} {keys : key.Ghosts K} where
   pub call_next : (c : Call) (r : Answer) (b b' : Book T K prices keys) (p p' : Pages) → Makes (step c) b p b' p' r → Next (typed c) r b p b' p'
   call_next c r b b' p p' makes = came_more (typed c) (Ok c) r b b' p p' refl makes
 
-  pub start_refused : (t : T) (k : K) (line out : List ℕ) (p : Pages) (f : Fault) (r : Result (ℕ × Option (Book T K prices keys)) Fault) → short_page 64 out ≡ Some f → r ≡ Err f → Started t k line out p p out r
+  pub start_refused : (t : T) (k : K) (line out : List ℕ) (p : Pages) (f : Fault) (r : Result (ℕ × Option (Book T K prices keys)) Fault) → short_page ANSWER_PAGE out ≡ Some f → r ≡ Err f → Started t k line out p p out r
   start_refused t k line out p f r short is = record {
     written = unstarted f short is refl refl;
     starts = subst (λ x. IfOk x (λ y. IfSome y.1 (λ b. Starts t k line p b p))) (sym is) tt;
   }
 
   pub start_answered : (t : T) (k : K) (line out out' : List ℕ) (p p' : Pages) (a : Result (Book T K prices keys) Fault) (answer : Answer) (book : Option (Book T K prices keys)) (n : ℕ)
-      → short_page 64 out ≡ None → Begins t k line p p' a → wrote (Ok n) out' ≡ answering answer out → answer ≡ told a → book ≡ kept a
+      → short_page ANSWER_PAGE out ≡ None → Begins t k line p p' a → wrote (Ok n) out' ≡ answering answer out → answer ≡ told a → book ≡ kept a
       → StartWritten t k line out p p' out' (Ok (n, book))
   start_answered t k line out out' p p' a answer book n room begins e is has =
       let w = written answer out out' (Ok n) room e ∙ ap (λ x. wrote (Ok (length (answer_text x))) (onto (answer_text x) out)) is in

@@ -12,6 +12,7 @@ use Rattle.law.specs.Data.{Data, layout_of}
 use Rattle.law.specs.Figures.{stations_in}
 use Rattle.law.specs.Laws.{Law, Led, SameData, SameDays, SameMoney, SameStation, data_of}
 use Rattle.share.specs.declared.key.Key as key
+use Rattle.spell.specs.declared.answers.TheConstants.{ANSWER_PAGE}
 use Rattle.tariff.specs.declared.tariff.Tariff as tariff
 use Rattle.units.specs.Refusals.{when}
 use Rattle.units.specs.declared.call.Call.{Call}
@@ -30,7 +31,7 @@ Taking = Result Call Fault
 
 -- a page that has not room for every answer
 abbrev pub no_room : ℕ → Option Fault
-no_room room = when (nat_lt room 64) (ShortOutput room)
+no_room room = when (nat_lt room ANSWER_PAGE) (ShortOutput room)
 
 -- a line is read where there is room for any answer
 abbrev pub Read : Option Fault → List ℕ → Taking → Type 0

@@ -11,6 +11,7 @@ use Rattle.share.specs.declared.key.Key as key
 use Rattle.spell.specs.Answers.{answer_text, answering}
 use Rattle.spell.specs.Causes.{short_page}
 use Rattle.spell.specs.Pages.{onto, wrote}
+use Rattle.spell.specs.declared.answers.TheConstants.{ANSWER_PAGE}
 use Rattle.tariff.specs.declared.tariff.Tariff as tariff
 use Rattle.units.specs.declared.call.Opening.{Opening}
 use Rattle.units.specs.declared.fault.Fault.{Fault}
@@ -26,7 +27,7 @@ pub record Handled {T K : Type 0} {prices : tariff.Ghosts T} {keys : key.Ghosts 
 
 -- The line, and the room that there was for its answer, were answered so. That answer stands at the
 -- front of the page, and behind it
--- what the page held; a page under 64 bytes is refused, and stays as it was. And the entry goes on
+-- what the page held; a page that is too short is refused, and stays as it was. And the entry goes on
 -- whatever run led to the book.
 pub record Lined {T K : Type 0} {prices : tariff.Ghosts T} {keys : key.Ghosts K}
     (line out : List ℕ) (b : Book T K prices keys) (p : Pages) (b' : Book T K prices keys)
@@ -62,14 +63,14 @@ abbrev pub kept : {B : Type 0} → Result B Fault → Option B
 kept (Ok b) = Some b
 kept (Err f) = None
 
--- A page under 64 bytes is refused, and nothing changes; else the answer stands at its front, and
+-- A page that is too short is refused, and nothing changes; else the answer stands at its front, and
 -- the book is handed out.
 pub data StartWritten {T K : Type 0} {prices : tariff.Ghosts T} {keys : key.Ghosts K}
     (tariff : T) (key : K) (line out : List ℕ) (p p' : Pages) (out' : List ℕ)
     (r : Result (ℕ × Option (Book T K prices keys)) Fault) : Type 0 where
-  unstarted : (f : Fault) → short_page 64 out ≡ Some f → r ≡ Err f → out' ≡ out → p' ≡ p
+  unstarted : (f : Fault) → short_page ANSWER_PAGE out ≡ Some f → r ≡ Err f → out' ≡ out → p' ≡ p
       → StartWritten tariff key line out p p' out' r
-  begun : (a : Result (Book T K prices keys) Fault) → short_page 64 out ≡ None
+  begun : (a : Result (Book T K prices keys) Fault) → short_page ANSWER_PAGE out ≡ None
       → Begins tariff key line p p' a
       → r ≡ Ok (length (answer_text (told a)), kept a) → out' ≡ onto (answer_text (told a)) out
       → StartWritten tariff key line out p p' out' r

@@ -9,6 +9,7 @@ use Rattle.book.specs.declared.answers.Statement.{Statement as Figures}
 use Rattle.spell.specs.Statements.{statement_text, stating}
 use Rattle.spell.specs.declared.figures.GeneratorLine.{GeneratorLine}
 use Rattle.spell.specs.declared.figures.StationLine.{StationLine}
+use Rattle.spell.specs.declared.statement.TheConstants.{STATEMENT_PAGE}
 use Rattle.units.specs.Refusals.{first}
 use Rattle.units.specs.declared.fault.Fault.{Fault}
 
@@ -45,7 +46,7 @@ generator_lines t s =
 
 -- a page under 4,096 bytes, then the pages and the station
 abbrev pub untold : ℕ → State → List ℕ → Option Fault
-untold t s out = first (short_page 4096 out ∷ presence t s ∷ [])
+untold t s out = first (short_page STATEMENT_PAGE out ∷ presence t s ∷ [])
 
 -- the statement at the front of the page; or its refusal, and the page as it was
 abbrev pub telling : ℕ → ℕ → State → List ℕ → Wrote

@@ -75,7 +75,7 @@ fn write_handled<T: Tariff, K: Key>(
     answer: &Result<(), Fault>,
     output: &mut [u8],
 ) -> Result<usize, Fault>
-    requires { short_page 64 output.old ≡ None }
+    requires { short_page ANSWER_PAGE output.old ≡ None }
     ensures { WritesHandled T.Tariff K.Key answer.now output.old output.new result }
 {
     write_answer(answer, output)
@@ -118,7 +118,7 @@ fn write_begun<T: Tariff + Drop, K: Key + Drop>(
     opened: Result<Book<T, K>, Fault>,
     output: &mut [u8],
 ) -> Result<(usize, Option<Book<T, K>>), Fault>
-    requires { short_page 64 output.old ≡ None }
+    requires { short_page ANSWER_PAGE output.old ≡ None }
     ensures { WritesBegun T.Tariff K.Key opened output.old output.new result }
 {
     let (answer, book) = match opened {

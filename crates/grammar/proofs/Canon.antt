@@ -7,6 +7,7 @@ use Rattle.std.proofs.lemmas.Str.Parse.{IsNumeralModel, numerals_by_fold}
 use Rattle.std.proofs.lemmas.Fmt.{digits_decimal, digits_value-decimal, length-decimal-le, decimal_nonempty, first_decimal, decimal_digit}
 use Rattle.std.proofs.lemmas.Bool.{cases_lt, cond-false, and_parts, ne_eqb, leb-true}
 use Rattle.grammar.specs.Grammar.{all_within, Word, Numeral, spaced, SoundArg, Sound}
+use Rattle.grammar.specs.declared.line.TheConstants.{MOST_DIGITS}
 use Rattle.grammar.specs.Calls.{Small, Held, argument, form, read_on, pieces, value, Canonical}
 use Rattle.units.specs.Calls.{Value, one, many, Asked}
 use Rattle.grammar.proofs.Reading.{one_form}
@@ -21,7 +22,7 @@ pub numeral_of : (n : ℕ) → Small n → Numeral (decimal n)
 numeral_of n h = (
   digits_decimal own n (wide n h),
   decimal_nonempty n (wide n h),
-  length-decimal-le 13 n (omega arith) h (wide n h),
+  length-decimal-le MOST_DIGITS n (omega arith) h (wide n h),
   λ e. ⊎_elim (λ z. ap length (decimal_digit n (omega arith))) (λ z. absurd (omega (arith, first_decimal n z (wide n h)))) (cases_lt n 1),
 )
 

@@ -6,6 +6,7 @@ use Rattle.grammar.specs.Calls.{argument, form, Misfit}
 use Rattle.units.specs.Calls.{Value, one, many, Asked, asked, opens, said}
 use Rattle.units.specs.Heads.{name, sorts}
 use Rattle.grammar.specs.Grammar.{Word, Form, spelled, NotForm}
+use Rattle.grammar.specs.declared.line.TheConstants.{LONGEST_LINE}
 use Rattle.grammar.specs.Laws.{value_sort, CallsExact, OpeningsExact}
 use Rattle.grammar.specs.Reads.{arg_sort, Is, Heads, Refused, long, no_form, no_head, misfit, Accepted}
 use Rattle.units.specs.Heads.{calls, openings}
@@ -64,7 +65,7 @@ fits_not line wanted f g h k p i j a b m e =
 never : {X : Type 0} (line : List ℕ) (n : ℕ) (f : Form) → NotForm line n → Is line f → X
 never line n f p q = absurd (p.none f q.sound q.bytes)
 
-over : {X : Type 0} (line : List ℕ) (f : Form) → 1024 < length line → Is line f → X
+over : {X : Type 0} (line : List ℕ) (f : Form) → LONGEST_LINE < length line → Is line f → X
 over line f h q = absurd (omega (arith, q.short))
 
 headless : {X : Type 0} (line : List ℕ) (wanted : Head → Bool) (f g : Form) (h : Head) → Is line f → Is line g → ((h : Head) → Heads wanted f h → ⊥) → Heads wanted g h → X

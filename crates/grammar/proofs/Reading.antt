@@ -6,6 +6,7 @@ use Rattle.std.proofs.lemmas.List.{flat_map_more, length_push}
 use Rattle.std.proofs.lemmas.Bool.{cond_both, cond-true, cond-false, eqb-true, ne_eqb, ltb-true, lt-ltb, and_parts, and_from}
 use Rattle.std.proofs.lemmas.Bool.Decides.{nat_tests}
 use Rattle.grammar.specs.Grammar.{all_within, Word, Numeral, spaced, Arg, number, list, spelled_arg, SoundArg, Form, Sound, opened, spelled, Begins, NotForm}
+use Rattle.grammar.specs.declared.line.TheConstants.{MOST_DIGITS, MOST_LETTERS, MOST_NUMBERS}
 use Rattle.grammar.specs.Machine.{with_arg, led, Spot, top, inside, State, start, word, need, digits, closed, done, grows, after, listed, numbered, named, opens, step, Outcome, whole, stuck, ended, outcome}
 
 -- the bytes that lead to a state
@@ -26,11 +27,11 @@ told (done f) = spelled f
 
 abbrev GoodSpot : Spot → Type 0
 GoodSpot (top f) = Sound f
-GoodSpot (inside f ns) = Sound f × AllByRecursion Numeral ns × (length ns < 96)
+GoodSpot (inside f ns) = Sound f × AllByRecursion Numeral ns × (length ns < MOST_NUMBERS)
 
 abbrev Good : State → Type 0
 Good start = Unit {0}
-Good (word w) = (all_within 97 122 w ≡ true) × (length w ≤ 8)
+Good (word w) = (all_within 97 122 w ≡ true) × (length w ≤ MOST_LETTERS)
 Good (need p) = GoodSpot p
 Good (digits p ds) = GoodSpot p × Numeral ds
 Good (closed f) = Sound f
@@ -74,7 +75,7 @@ steps_after f b h =
 steps_listed : (f : Form) (ns : List (List ℕ)) (ds : List ℕ) (b : ℕ) → GoodSpot (inside f ns) → Numeral ds → IfSome (listed f ns ds b) (Steps (digits (inside f ns) ds) b)
 steps_listed f ns ds b h k =
     cond_both (eqb b 32) _ _ (λ o. IfSome o (Steps (digits (inside f ns) ds) b))
-    (λ e. cond_both (ltb (suc (length ns)) 96) _ _ (λ o. IfSome o (Steps (digits (inside f ns) ds) b))
+    (λ e. cond_both (ltb (suc (length ns)) MOST_NUMBERS) _ _ (λ o. IfSome o (Steps (digits (inside f ns) ds) b))
     (λ room. (
       (h.0, all_push Numeral ns ds h.1 k, simp length_push (omega (arith, ltb-true _ _ room))),
       at_byte (told (need (inside f (ns ++ ds ∷ [])))) (told (digits (inside f ns) ds)) b 32 e (ap (λ l. opened f ++ 32 ∷ 40 ∷ l) (led_push ns ds) ∙ simp append_assoc),
@@ -122,7 +123,7 @@ steps_opens (top f) b h =
 more_digits_lem : (ds : List ℕ) (b : ℕ) → Numeral ds → within 48 57 b ≡ true → grows ds ≡ true → Numeral (ds ++ b ∷ [])
 more_digits_lem [] b h d g = absurd (omega (arith, h.1))
 more_digits_lem (x ∷ ds) b h d g =
-    let first : (x ≡ 48 → ⊥) × (suc (length ds) < 13) = grind (arith, nat_tests) in (
+    let first : (x ≡ 48 → ⊥) × (suc (length ds) < MOST_DIGITS) = grind (arith, nat_tests) in (
       within_push 48 57 (x ∷ ds) b h.0 d,
       omega arith,
       simp length_push (omega (arith, first.1)),
@@ -133,7 +134,7 @@ steps : (s : State) (b : ℕ) → Good s → IfSome (step s b) (Steps s b)
 steps start b h =
     cond_both (eqb b 40) _ _ (λ o. IfSome o (Steps start b)) (λ e. ((refl, omega arith), ap (λ c. c ∷ []) (sym (eqb-true b 40 e)))) (λ _. tt)
 steps (word w) b h =
-    cond_both (within 97 122 b && ltb (length w) 8) _ _ (λ o. IfSome o (Steps (word w) b))
+    cond_both (within 97 122 b && ltb (length w) MOST_LETTERS) _ _ (λ o. IfSome o (Steps (word w) b))
     (λ e. let p = and_parts _ _ e in ((within_push 97 122 w b h.0 p.0, simp length_push (omega (arith, ltb-true _ _ p.1))), refl))
     (λ _. steps_named w b h)
 steps (need p) b h =
@@ -250,23 +251,23 @@ stays s (b ∷ bs) more (suc m) left h e past in-line =
 pub goes : (s t : State) (b : ℕ) (bs : List ℕ) → step s b ≡ Some t → outcome s (b ∷ bs) ≡ outcome t bs
 goes s t b bs e = ap (λ o. elim o [ None ↦ stuck (suc (length bs)) | Some t ↦ outcome t bs ]) e
 
-pub through_letters : (w v rest : List ℕ) → all_within 97 122 v ≡ true → length w + length v ≤ 8 → outcome (word w) (v ++ rest) ≡ outcome (word (w ++ v)) rest
+pub through_letters : (w v rest : List ℕ) → all_within 97 122 v ≡ true → length w + length v ≤ MOST_LETTERS → outcome (word w) (v ++ rest) ≡ outcome (word (w ++ v)) rest
 through_letters w [] rest h k = ap (λ l. outcome (word l) rest) (sym (append-nil w))
 through_letters w (b ∷ v) rest h k =
     let p = and_parts (within 97 122 b) (all_within 97 122 v) h in
-    let small : ltb (length w) 8 ≡ true = lt-ltb _ _ (omega arith) in
+    let small : ltb (length w) MOST_LETTERS ≡ true = lt-ltb _ _ (omega arith) in
     let here = goes (word w) (word (w ++ b ∷ [])) b (v ++ rest) (cond-true _ _ _ (and_from _ _ p.0 small)) in
     here ∙ through_letters (w ++ b ∷ []) v rest p.1 (simp length_push (omega arith)) ∙ ap (λ l. outcome (word l) rest) (append_assoc w (b ∷ []) v)
 
 pub through_word : (w rest : List ℕ) → Word w → outcome start (40 ∷ (w ++ rest)) ≡ outcome (word w) rest
 through_word w rest h = through_letters [] w rest h.0 (omega (arith, h.2))
 
-pub through_digits : (p : Spot) (ds es rest : List ℕ) → 1 ≤ length ds → (get_or ds 0 0 ≡ 48 → ⊥) → all_within 48 57 es ≡ true → length ds + length es ≤ 13 → outcome (digits p ds) (es ++ rest) ≡ outcome (digits p (ds ++ es)) rest
+pub through_digits : (p : Spot) (ds es rest : List ℕ) → 1 ≤ length ds → (get_or ds 0 0 ≡ 48 → ⊥) → all_within 48 57 es ≡ true → length ds + length es ≤ MOST_DIGITS → outcome (digits p ds) (es ++ rest) ≡ outcome (digits p (ds ++ es)) rest
 through_digits p ds [] rest s z h k = ap (λ l. outcome (digits p l) rest) (sym (append-nil ds))
 through_digits p [] (e ∷ es) rest s z h k = absurd (omega arith)
 through_digits p (d ∷ ds) (e ∷ es) rest s z h k =
     let q = and_parts (within 48 57 e) (all_within 48 57 es) h in
-    let room : grows (d ∷ ds) ≡ true = cond-false _ _ _ (ne_eqb d 48 z) ∙ lt-ltb _ 13 (omega arith) in
+    let room : grows (d ∷ ds) ≡ true = cond-false _ _ _ (ne_eqb d 48 z) ∙ lt-ltb _ MOST_DIGITS (omega arith) in
     let here = goes (digits p (d ∷ ds)) (digits p (d ∷ ds ++ e ∷ [])) e (es ++ rest) (cond-true _ _ _ (and_from _ _ q.0 room)) in
     here ∙ through_digits p (d ∷ ds ++ e ∷ []) es rest (omega arith) z q.1 (simp length_push (omega arith)) ∙ ap (λ l. outcome (digits p l) rest) (append_assoc (d ∷ ds) (e ∷ []) es)
 
@@ -278,17 +279,17 @@ through_number p (d ∷ e ∷ ds) rest h =
     goes (need p) (digits p (d ∷ [])) d (e ∷ ds ++ rest) (cond-true _ _ _ q.0)
     ∙ through_digits p (d ∷ []) (e ∷ ds) rest (omega arith) (λ z. absurd (omega (arith, h.3 z))) q.1 (omega (arith, h.2))
 
-pub through_list : (f : Form) (ns : List (List ℕ)) (n : List ℕ) (ms : List (List ℕ)) (rest : List ℕ) → AllByRecursion Numeral (n ∷ ms) → length ns + length (n ∷ ms) ≤ 96 → outcome (need (inside f ns)) (spaced (n ∷ ms) ++ 41 ∷ rest) ≡ outcome (closed (with_arg f (list (led ns ++ spaced (n ∷ ms))))) rest
+pub through_list : (f : Form) (ns : List (List ℕ)) (n : List ℕ) (ms : List (List ℕ)) (rest : List ℕ) → AllByRecursion Numeral (n ∷ ms) → length ns + length (n ∷ ms) ≤ MOST_NUMBERS → outcome (need (inside f ns)) (spaced (n ∷ ms) ++ 41 ∷ rest) ≡ outcome (closed (with_arg f (list (led ns ++ spaced (n ∷ ms))))) rest
 through_list f ns n [] rest h k =
     through_number (inside f ns) n (41 ∷ rest) h.0 ∙ goes (digits (inside f ns) n) (closed (with_arg f (list (led ns ++ n)))) 41 rest refl
 through_list f ns n (m ∷ ms) rest h k =
     let tail : List ℕ = spaced (m ∷ ms) in
-    let small : ltb (suc (length ns)) 96 ≡ true = lt-ltb _ 96 (omega arith) in
+    let small : ltb (suc (length ns)) MOST_NUMBERS ≡ true = lt-ltb _ MOST_NUMBERS (omega arith) in
     let next : State = need (inside f (ns ++ n ∷ [])) in
     let same : led (ns ++ n ∷ []) ++ tail ≡ led ns ++ (n ++ 32 ∷ tail) = ap (λ l. l ++ tail) (led_push ns n) ∙ simp append_assoc in
     ap (outcome (need (inside f ns))) (append_assoc n (32 ∷ tail) (41 ∷ rest))
     ∙ through_number (inside f ns) n (32 ∷ tail ++ 41 ∷ rest) h.0
-    ∙ goes (digits (inside f ns) n) next 32 (tail ++ 41 ∷ rest) (cond-true (ltb (suc (length ns)) 96) (Some next) None small)
+    ∙ goes (digits (inside f ns) n) next 32 (tail ++ 41 ∷ rest) (cond-true (ltb (suc (length ns)) MOST_NUMBERS) (Some next) None small)
     ∙ through_list f (ns ++ n ∷ []) m ms rest h.1 (simp length_push (omega arith))
     ∙ ap (λ l. outcome (closed (with_arg f (list l))) rest) same
 
@@ -301,7 +302,7 @@ pub through_arg : (f : Form) (a : Arg) (rest : List ℕ) → SoundArg a → outc
 through_arg f (number ds) rest h = through_number (top f) ds rest h
 through_arg f (list bs) rest h = listed_arg h.each h.sound h.some h.few h.bytes
   where
-    listed_arg : (ns : List (List ℕ)) → AllByRecursion Numeral ns → 1 ≤ length ns → length ns ≤ 96 → bs ≡ spaced ns → outcome (need (top f)) ((40 ∷ (bs ++ 41 ∷ [])) ++ rest) ≡ outcome (closed (with_arg f (list bs))) rest
+    listed_arg : (ns : List (List ℕ)) → AllByRecursion Numeral ns → 1 ≤ length ns → length ns ≤ MOST_NUMBERS → bs ≡ spaced ns → outcome (need (top f)) ((40 ∷ (bs ++ 41 ∷ [])) ++ rest) ≡ outcome (closed (with_arg f (list bs))) rest
     listed_arg [] all some few e = absurd (omega arith)
     listed_arg (n ∷ ms) all some few e =
         let P : List ℕ → Type 0 = λ l. outcome (need (inside f [])) (l ++ 41 ∷ rest) ≡ outcome (closed (with_arg f (list l))) rest in

@@ -3,17 +3,18 @@ use Rattle.std.specs.Prelude.{◌≡◌, ℕ, ◌+◌, ◌-◌, ◌*◌, ◌^◌
 use Rattle.std.specs.List.{AllByRecursion}
 use Rattle.grammar.specs.Grammar as grammar
 use Rattle.grammar.specs.Grammar.{Arg, number, list, spaced, spelled}
+use Rattle.grammar.specs.declared.line.TheConstants.{MOST_DIGITS, MOST_NUMBERS}
 use Rattle.units.specs.Calls.{Value, one, many, Asked}
 use Rattle.units.specs.declared.head.Sort.{Sort}
 
 -- a number that a form holds
 abbrev pub Small : ℕ → Type 0
-Small n = n < 10 ^ 13
+Small n = n < 10 ^ MOST_DIGITS
 
 -- a value that a form holds
 abbrev pub Held : Value → Type 0
 Held (one n) = Small n
-Held (many ns) = (1 ≤ length ns) × (length ns ≤ 96) × AllByRecursion Small ns
+Held (many ns) = (1 ≤ length ns) × (length ns ≤ MOST_NUMBERS) × AllByRecursion Small ns
 
 abbrev pub argument : Value → Arg
 argument (one n) = number (decimal n)

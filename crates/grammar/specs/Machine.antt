@@ -6,6 +6,7 @@ use Rattle.std.specs.Prelude.{ℕ, suc, Bool, false, cond, ◌&&◌, List, [], �
 use Rattle.std.specs.List.{flat_map}
 use Rattle.std.specs.Int.{is_in_range}
 use Rattle.grammar.specs.Grammar.{Arg, number, list, Form}
+use Rattle.grammar.specs.declared.line.TheConstants.{MOST_DIGITS, MOST_LETTERS, MOST_NUMBERS}
 
 abbrev pub with_arg : Form → Arg → Form
 with_arg f a = record { head = f.head; args = f.args ++ a ∷ [] }
@@ -29,7 +30,7 @@ pub data State : Type 0 where
 
 -- a digit may follow these
 abbrev pub grows : List ℕ → Bool
-grows ds = cond (slice_index ds 0 == 48) false (nat_lt (length ds) 13)
+grows ds = cond (slice_index ds 0 == 48) false (nat_lt (length ds) MOST_DIGITS)
 
 abbrev pub after : Form → ℕ → Option State
 after f b = cond (b == 32) (Some (need (top f))) (cond (b == 41) (Some (done f)) None)
@@ -37,7 +38,7 @@ after f b = cond (b == 32) (Some (need (top f))) (cond (b == 41) (Some (done f))
 abbrev pub listed : Form → List (List ℕ) → List ℕ → ℕ → Option State
 listed f ns ds b =
     cond (b == 32)
-    (cond (nat_lt (suc (length ns)) 96) (Some (need (inside f (ns ++ ds ∷ [])))) None)
+    (cond (nat_lt (suc (length ns)) MOST_NUMBERS) (Some (need (inside f (ns ++ ds ∷ [])))) None)
     (cond (b == 41) (Some (closed (with_arg f (list (led ns ++ ds))))) None)
 
 abbrev pub numbered : Spot → List ℕ → ℕ → Option State
@@ -54,7 +55,7 @@ opens (inside f ns) b = None
 
 abbrev pub step : State → ℕ → Option State
 step start b = cond (b == 40) (Some (word [])) None
-step (word w) b = cond (is_in_range 97 122 b && nat_lt (length w) 8) (Some (word (w ++ b ∷ []))) (named w b)
+step (word w) b = cond (is_in_range 97 122 b && nat_lt (length w) MOST_LETTERS) (Some (word (w ++ b ∷ []))) (named w b)
 step (need p) b = cond (is_in_range 48 57 b) (Some (digits p (b ∷ []))) (opens p b)
 step (digits p ds) b = cond (is_in_range 48 57 b && grows ds) (Some (digits p (ds ++ b ∷ []))) (numbered p ds b)
 step (closed f) b = after f b

@@ -4,6 +4,7 @@ use Rattle.std.specs.List.{All, AllByRecursion, slice_split, onto_first}
 use Rattle.std.proofs.lemmas.List.Elements.{All-from_recursion}
 use Rattle.grammar.specs.Calls.{pieces}
 use Rattle.grammar.specs.Grammar.{Numeral, Numbers, spaced}
+use Rattle.grammar.specs.declared.line.TheConstants.{MOST_NUMBERS}
 use Rattle.grammar.proofs.Canon.{pieces_spaced}
 
 abbrev is_space : ℕ → Bool
@@ -42,7 +43,7 @@ pub pieces_are : (bs : List ℕ) → slice_split is_space bs ≡ pieces [] bs
 pieces_are bs = sym (none_before bs) ∙ split_is [] bs
 
 -- each is a number
-pub sound_pieces : (bs : List ℕ) → Numbers 96 bs → All Numeral (pieces [] bs)
+pub sound_pieces : (bs : List ℕ) → Numbers MOST_NUMBERS bs → All Numeral (pieces [] bs)
 sound_pieces bs h = All-from_recursion Numeral _ (each h.each h.sound h.some h.bytes)
   where
     each : (ns : List (List ℕ)) → AllByRecursion Numeral ns → 1 ≤ length ns → bs ≡ spaced ns → AllByRecursion Numeral (pieces [] bs)
@@ -52,10 +53,10 @@ sound_pieces bs h = All-from_recursion Numeral _ (each h.each h.sound h.some h.b
 pub numeral_at : (bs ds : List ℕ) (k : ℕ) → All Numeral (pieces [] bs) → k < length (slice_split is_space bs) → ds ≡ get_or (slice_split is_space bs) k ds → Numeral ds
 numeral_at bs ds k h lt e = subst Numeral (sym e) (subst (All Numeral) (sym (pieces_are bs)) h k ds lt)
 
--- no more than 96 of them
-pub few_pieces : (bs : List ℕ) → Numbers 96 bs → length (pieces [] bs) ≤ 96
+-- no more than MOST_NUMBERS of them
+pub few_pieces : (bs : List ℕ) → Numbers MOST_NUMBERS bs → length (pieces [] bs) ≤ MOST_NUMBERS
 few_pieces bs h = few h.each h.sound h.some h.few h.bytes
   where
-    few : (ns : List (List ℕ)) → AllByRecursion Numeral ns → 1 ≤ length ns → length ns ≤ 96 → bs ≡ spaced ns → length (pieces [] bs) ≤ 96
+    few : (ns : List (List ℕ)) → AllByRecursion Numeral ns → 1 ≤ length ns → length ns ≤ MOST_NUMBERS → bs ≡ spaced ns → length (pieces [] bs) ≤ MOST_NUMBERS
     few [] a s l e = absurd (omega arith)
     few (n ∷ ns) a s l e = omega (arith, ap length (ap (pieces []) e ∙ pieces_spaced n ns a))

@@ -4,6 +4,7 @@ use lib.ListN.{length-map}
 use Rattle.std.specs.List.{AllByRecursion, position_or_len}
 use Rattle.grammar.specs.Calls.{argument, Held, Small, read_on, pieces, value}
 use Rattle.grammar.specs.Grammar.{Numeral, Numbers, spaced, Arg, number, list, SoundArg}
+use Rattle.grammar.specs.declared.line.TheConstants.{MOST_NUMBERS}
 use Rattle.grammar.specs.Laws.{value_sort}
 use Rattle.grammar.specs.Reads.{arg_sort}
 use Rattle.grammar.proofs.Canon.{pieces_spaced}
@@ -33,10 +34,10 @@ record Back (v : Value) (x : Arg) : Type 0 where
   spells : argument v ≡ x
   held : Held v
 
-list_back : (bs : List ℕ) → Numbers 96 bs → Back (many (map (read_on 0) (pieces [] bs))) (list bs)
+list_back : (bs : List ℕ) → Numbers MOST_NUMBERS bs → Back (many (map (read_on 0) (pieces [] bs))) (list bs)
 list_back bs h = from h.each h.sound h.some h.few h.bytes
   where
-    from : (ns : List (List ℕ)) → AllByRecursion Numeral ns → 1 ≤ length ns → length ns ≤ 96 → bs ≡ spaced ns → Back (many (map (read_on 0) (pieces [] bs))) (list bs)
+    from : (ns : List (List ℕ)) → AllByRecursion Numeral ns → 1 ≤ length ns → length ns ≤ MOST_NUMBERS → bs ≡ spaced ns → Back (many (map (read_on 0) (pieces [] bs))) (list bs)
     from [] a s f e = absurd (omega arith)
     from (n ∷ ns) a s f e =
         let B : List ℕ → Type 0 = λ l. Back (many (map (read_on 0) (pieces [] l))) (list l) in

@@ -4,7 +4,8 @@ use Rattle.std.proofs.lemmas.List.{length_push, map_push, take-map}
 use Rattle.std.specs.List.{All}
 use Rattle.std.proofs.lemmas.List.Elements.{All-push, All-take}
 use Rattle.grammar.specs.Grammar.{Arg, Form}
-use Rattle.grammar.specs.Machine.{start, closed, outcome, stuck, whole}
+use Rattle.grammar.specs.declared.line.TheConstants.{LONGEST_LINE}
+use Rattle.grammar.specs.Machine.{start, closed, outcome, stuck}
 use Rattle.grammar.specs.Reads.{no_form}
 use Rattle.grammar.proofs.Reading.{reads_form, not_form_lem}
 use Rattle.lines.specs.Forms.{Found, ReadsForm}
@@ -20,16 +21,16 @@ use Rattle.units.specs.declared.fault.Fault.{Fault}
 abbrev pub Reached : (line w : List ℕ) → List Arg → (rest : List ℕ) → Type 0
 Reached line w xs rest = outcome start line ≡ outcome (closed (record { head = w; args = xs })) rest
 
-refused : (line : List ℕ) (left : ℕ) (e : Fault) → length line ≤ 1024 → At line left e → outcome start line ≡ stuck left → ReadsForm line (Err e)
+refused : (line : List ℕ) (left : List ℕ) (e : Fault) → length line ≤ LONGEST_LINE → At line left e → outcome start line ≡ stuck (length left) → ReadsForm line (Err e)
 refused line left e h at o =
-    let none = not_form_lem line left o in
-    (λ f is. none.none f is.sound is.bytes, λ wanted. no_form (length line - left) h none at)
+    let none = not_form_lem line (length left) o in
+    (λ f is. none.none f is.sound is.bytes, λ wanted. no_form (length line - length left) h none at)
 
-pub first_refused : (line rest : List ℕ) (e : Fault) → length line ≤ 1024 → First line (Err e) rest → ReadsForm line (Err e)
-first_refused line rest e h k = refused line k.0 e h k.1 k.2
+pub first_refused : (line before rest : List ℕ) (e : Fault) → length line ≤ LONGEST_LINE → First line before (Err e) rest → ReadsForm line (Err e)
+first_refused line before rest e h k = refused line k.1 e h k.2 k.3
 
-pub next_refused : (line bs rest w : List ℕ) (xs : List Arg) (e : Fault) → length line ≤ 1024 → Reached line w xs bs → Next line bs (Err e) rest → ReadsForm line (Err e)
-next_refused line bs rest w xs e h o k = refused line k.0 e h k.1 (o ∙ k.2 (record { head = w; args = xs }))
+pub next_refused : (line bs rest w : List ℕ) (xs : List Arg) (e : Fault) → length line ≤ LONGEST_LINE → Reached line w xs bs → Next line bs (Err e) rest → ReadsForm line (Err e)
+next_refused line bs rest w xs e h o k = refused line k.1 e h k.2 (o ∙ k.3 (record { head = w; args = xs }))
 
 -- one more argument
 read_on_lem : (line bs rest w : List ℕ) (xs : List Arg) (t : Token) → Reached line w xs bs → More line bs t rest → Reached line w (xs ++ arg_of t.part ∷ []) rest
@@ -59,8 +60,8 @@ gather {line} {bs} {rest} {w} {old} {new} {count} {t} g m is =
       reached = read_on_lem line bs rest w g.args t g.reached m;
     }
 
-pub read : (line bs : List ℕ) (parts : Parts) → length line ≤ 1024 → Gathered line parts.letters.now parts.args.items parts.count bs → ((f : Form) → outcome (closed f) bs ≡ whole f) → Found line parts
+pub read : (line bs : List ℕ) (parts : Parts) → length line ≤ LONGEST_LINE → Gathered line parts.letters.now parts.args.items parts.count bs → bs ≡ 41 ∷ [] → Found line parts
 read line bs parts h g k =
     let f : Form = record { head = parts.letters.now; args = g.args } in
-    let r = reads_form line f (g.reached ∙ k f) in
+    let r = reads_form line f (g.reached ∙ ap (outcome (closed f)) k) in
     record { form = f; is = record { short = h; sound = r.0; bytes = r.1 }; named = refl; counted = g.counted; kept = g.kept }

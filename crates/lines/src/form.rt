@@ -8,15 +8,11 @@ ghost use Rattle.tokens.specs.Tokens.{SoundPart};
 
 use super::arguments::misfit;
 use arrayvec::ArrayVec;
-use grammar::line::LONGEST_LINE;
 pub use reads::read_form;
 use tokens::token::Part;
 use units::call::MOST_ARGUMENTS;
 use units::fault::Fault;
 use units::head::Head;
-
-/// The longest line that is read.
-pub const MOST_BYTES: usize = LONGEST_LINE;
 
 /// How many arguments are kept: one more than any head takes, so that a surplus one shows.
 pub const MOST_GATHERED: usize = MOST_ARGUMENTS + 1;

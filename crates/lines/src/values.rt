@@ -10,6 +10,7 @@ ghost use Rattle.lines.specs.Arguments.{call_values, first_list, is_list, said_a
 use super::form::Parts;
 use super::lists::{Lists, Room};
 use arrayvec::ArrayVec;
+use grammar::line::MOST_NUMBERS;
 use std::array;
 use tokens::token::Part;
 use units::call::{self, MOST_ARGUMENTS, Opening, Value};
@@ -26,7 +27,7 @@ fn value(digits: &[u8]) -> u64
 /// The numbers that stand with one space between, in this room.
 fn values<'r>(numbers: &[u8], room: &'r mut Room) -> &'r [u64]
     requires numerals { All Numeral (pieces [] numbers.now) }
-    requires few { length (pieces [] numbers.now) ≤ 96 }
+    requires few { length (pieces [] numbers.now) ≤ MOST_NUMBERS }
     ensures { result.now ≡ map (read_on 0) (pieces [] numbers.now) }
 {
     let values = room.numbers.insert(ArrayVec::new());

@@ -6,6 +6,7 @@ use Rattle.units.specs.declared.fault.Fault.{Fault}
 use Rattle.units.specs.declared.fault.Refusal.{Refusal}
 use Rattle.spell.specs.Answers.{refusal_line}
 use Rattle.spell.specs.Pages.{line_fed}
+use Rattle.spell.specs.declared.answers.TheConstants.{ANSWER_PAGE}
 
 -- as a writer writes it
 pub refusal_line_is : (r : Refusal) → refusal_line r ≡ line_fed (codes "no") (decimal r.layer ∷ decimal r.number ∷ decimal r.place.0 ∷ decimal r.place.1 ∷ [])
@@ -15,7 +16,7 @@ refusal_line_is r = grind (arith, append_assoc, append-nil)
 pub few_digits : (f : Fault) → ((refusal_of f).layer < 10) × ((refusal_of f).number < 100)
 few_digits f = grind arith
 
-pub refusal_fits : (r : Refusal) → r.layer < 10 → r.number < 100 → r.place.0 < 2 ^ 64 → r.place.1 < 2 ^ 64 → length (refusal_line r) ≤ 64
+pub refusal_fits : (r : Refusal) → r.layer < 10 → r.number < 100 → r.place.0 < 2 ^ 64 → r.place.1 < 2 ^ 64 → length (refusal_line r) ≤ ANSWER_PAGE
 refusal_fits r l n p q =
     let layer = length-decimal-le 1 r.layer (omega arith) (omega arith) (omega arith) in
     let number = length-decimal-le 2 r.number (omega arith) (omega arith) (omega arith) in

@@ -10,6 +10,7 @@ use Rattle.units.specs.declared.fault.Fault.{Fault}
 use Rattle.grammar.specs.Calls.{Held, Small, form}
 use Rattle.units.specs.Calls.{Value, one, many, Asked, asked, opens}
 use Rattle.grammar.specs.Grammar.{spelled}
+use Rattle.grammar.specs.declared.line.TheConstants.{LONGEST_LINE, MOST_DIGITS}
 use Rattle.grammar.specs.Laws.{Exact}
 use Rattle.grammar.specs.Reads.{Accepted, ReadsCall, ReadsOpening}
 use Rattle.grammar.proofs.Exactly.{calls_exact, openings_exact}
@@ -26,10 +27,10 @@ all_decides test P each [] = (λ _. tt, λ _. refl)
 all_decides test P each (x ∷ xs) = Decides-and _ _ (each x) (all_decides test P each xs)
 
 small_decides : (ns : List ℕ) → Decides (all_are_small ns) (AllByRecursion Small ns)
-small_decides = all_decides small Small (λ n. Decides-ltb n (10 ^ 13))
+small_decides = all_decides small Small (λ n. Decides-ltb n (10 ^ MOST_DIGITS))
 
 holds_decides : (v : Value) → Decides (holds v) (Held v)
-holds_decides (one n) = Decides-ltb n (10 ^ 13)
+holds_decides (one n) = Decides-ltb n (10 ^ MOST_DIGITS)
 holds_decides (many ns) = let each = small_decides ns in (λ t. grind (arith, nat_tests), λ h. grind (arith, nat_tests))
 
 values_decide : (vs : List Value) → Decides (list_all holds vs) (AllByRecursion Held vs)
@@ -37,13 +38,13 @@ values_decide = all_decides holds Held holds_decides
 
 -- what was written
 
-spelt : (unheld : Option Fault) (line page : List ℕ) → 1024 ≤ length page → unheld ≡ None → length line ≤ 1024 → wrote (Ok (length line)) (onto line page) ≡ spelling_of unheld line page
+spelt : (unheld : Option Fault) (line page : List ℕ) → LONGEST_LINE ≤ length page → unheld ≡ None → length line ≤ LONGEST_LINE → wrote (Ok (length line)) (onto line page) ≡ spelling_of unheld line page
 unfolding spelling_of
 spelt unheld line page long all size = grind (arith, nat_tests)
 
 record Passed (unheld : Option Fault) (line before after : List ℕ) (n : ℕ) : Type 0 where
   pub held : unheld ≡ None
-  pub short : length line ≤ 1024
+  pub short : length line ≤ LONGEST_LINE
   pub size : n ≡ length line
   pub page : after ≡ onto line before
 
@@ -65,7 +66,7 @@ written_line a page after n e =
 its_line : (a : Asked) → FitsLine a → Accepted (spelled (form a)) a
 its_line a fits = record { short = fits.short; held = fits.held; bytes = refl }
 
-its_text : (a : Asked) → FitsLine a → (page : List ℕ) → 1024 ≤ length page → wrote (Ok (length (spelled (form a)))) (onto (spelled (form a)) page) ≡ spelling a page
+its_text : (a : Asked) → FitsLine a → (page : List ℕ) → LONGEST_LINE ≤ length page → wrote (Ok (length (spelled (form a)))) (onto (spelled (form a)) page) ≡ spelling a page
 its_text a fits page h = spelt _ _ page h (no_misfit holds a.values ((values_decide a.values).1 fits.held)) fits.short
 
 -- a line reads as each x that it spells

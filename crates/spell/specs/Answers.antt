@@ -5,6 +5,7 @@ use Rattle.units.specs.declared.fault.Fault.{Fault}
 use Rattle.units.specs.declared.fault.Refusal.{Refusal}
 use Rattle.spell.specs.Causes.{short_page}
 use Rattle.spell.specs.Pages.{Wrote, writing, line_fed}
+use Rattle.spell.specs.declared.answers.TheConstants.{ANSWER_PAGE}
 
 -- with a line feed
 unfoldable pub refusal_line : Refusal → List ℕ
@@ -15,4 +16,4 @@ answer_text (Ok u) = line_fed (codes "ok") []
 answer_text (Err f) = refusal_line (refusal_of f)
 
 abbrev pub answering : Result Unit Fault → List ℕ → Wrote
-answering a page = writing (short_page 64 page) (answer_text a) page
+answering a page = writing (short_page ANSWER_PAGE page) (answer_text a) page

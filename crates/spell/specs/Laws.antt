@@ -9,7 +9,8 @@ use Rattle.units.specs.declared.fault.Fault.{Fault}
 use Rattle.grammar.specs.Calls.{Held, form}
 use Rattle.units.specs.Calls.{Asked, asked, opens}
 use Rattle.grammar.specs.Grammar.{spelled}
-use Rattle.grammar.specs.Reads.{most_bytes, ReadsCall, ReadsOpening}
+use Rattle.grammar.specs.Reads.{ReadsCall, ReadsOpening}
+use Rattle.grammar.specs.declared.line.TheConstants.{LONGEST_LINE}
 use Rattle.spell.specs.Pages.{wrote, onto}
 use Rattle.spell.specs.Spelling.{spelling}
 
@@ -28,13 +29,13 @@ ReadBack X asks Reads = (x : X) (page after : List ℕ) (n : ℕ) → wrote (Ok 
 -- a form holds each argument, and the line is not too long
 pub record FitsLine (a : Asked) : Type 0 where
   pub held : AllByRecursion Held a.values
-  pub short : length (spelled (form a)) ≤ most_bytes
+  pub short : length (spelled (form a)) ≤ LONGEST_LINE
 
 -- x has a line, which is written on every page that is long enough, and no other line reads as x
 pub record OneLine (X : Type 0) (asks : X → Asked) (Reads : List ℕ → Result X Fault → Type 0) (x : X) : Type 0 where
   pub line : List ℕ
   pub reads : Reads line (Ok x)
-  pub written : (page : List ℕ) → most_bytes ≤ length page → wrote (Ok (length line)) (onto line page) ≡ spelling (asks x) page
+  pub written : (page : List ℕ) → LONGEST_LINE ≤ length page → wrote (Ok (length line)) (onto line page) ≡ spelling (asks x) page
   pub only : (other : List ℕ) (y : X) → asks y ≡ asks x → Reads other (Ok y) → other ≡ line
 
 abbrev pub OneLineEach : (X : Type 0) → (X → Asked) → (List ℕ → Result X Fault → Type 0) → Type 0

@@ -4,6 +4,7 @@ use Rattle.std.specs.List.{flat_map}
 use Rattle.std.specs.Fmt.{signed_decimal}
 use Rattle.spell.specs.Causes.{short_page}
 use Rattle.spell.specs.Pages.{Wrote, writing, line_fed}
+use Rattle.spell.specs.declared.statement.TheConstants.{STATEMENT_PAGE}
 use Rattle.spell.specs.declared.figures.StationLine.{StationLine}
 use Rattle.spell.specs.declared.figures.GeneratorLine.{GeneratorLine}
 
@@ -17,4 +18,4 @@ abbrev pub statement_text : StationLine → List GeneratorLine → List ℕ
 statement_text s gs = station_text s ++ flat_map generator_text gs
 
 abbrev pub stating : StationLine → List GeneratorLine → List ℕ → Wrote
-stating s gs page = writing (short_page 4096 page) (statement_text s gs) page
+stating s gs page = writing (short_page STATEMENT_PAGE page) (statement_text s gs) page

@@ -4,6 +4,7 @@ use Rattle.std.specs.List.{list_all, sum_by}
 use Rattle.std.specs.Fmt.{signed_decimal}
 use Rattle.units.specs.Calls.{Value, one, many}
 use Rattle.grammar.specs.Grammar.{spaced}
+use Rattle.grammar.specs.declared.line.TheConstants.{MOST_DIGITS, MOST_NUMBERS}
 use Rattle.spell.specs.Pages.{bracketed}
 use Rattle.spell.specs.declared.words.Word.{Word}
 use Rattle.spell.specs.declared.words.Word.TheVariants.{Number, Amount, List as Listed}
@@ -31,17 +32,17 @@ rooms = sum_by (λ w. 1 + room w)
 abbrev pub line_room : List ℕ → List Word → ℕ
 line_room head words = 2 + (length head + rooms words)
 
--- a number of at most 13 digits
+-- a number of no more digits than a form holds
 abbrev pub small : ℕ → Bool
-small n = nat_lt n (10 ^ 13)
+small n = nat_lt n (10 ^ MOST_DIGITS)
 
 abbrev pub all_are_small : List ℕ → Bool
 all_are_small ns = list_all small ns
 
--- a value that a form holds: a number of at most 13 digits, or 1 to 96 of these
+-- a value that a form holds: a number of so few digits, or a list of these, not empty and not too long
 abbrev pub holds : Value → Bool
 holds (one n) = small n
-holds (many ns) = nat_le 1 (length ns) && (nat_le (length ns) 96 && all_are_small ns)
+holds (many ns) = nat_le 1 (length ns) && (nat_le (length ns) MOST_NUMBERS && all_are_small ns)
 
 -- a word that a form holds, which no signed amount is
 abbrev pub held_word : Word → Bool

@@ -15,7 +15,7 @@ pub const ANSWER_PAGE: usize = 64;
 #[tactic(auto, using(crate::proofs::Answering::refusals))]
 fn write(answer: &Result<(), Fault>, writer: &mut Writer)
     requires { writer.old.at ≡ 0 }
-    ensures { Writes (answer_text answer.now) 64 writer.old writer.new }
+    ensures { Writes (answer_text answer.now) ANSWER_PAGE writer.old writer.new }
 {
     match answer {
         Ok(()) => writer.fed_line(b"ok", &[]),

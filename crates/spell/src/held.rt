@@ -8,17 +8,17 @@ use crate::words::Word;
 use grammar::line::MOST_NUMBERS;
 use units::fault::Fault;
 
-/// The first number of more than 13 digits.
+/// The first number of more than `MOST_DIGITS` digits, which are 13.
 const TOO_LARGE: u64 = 10_000_000_000_000;
 
-/// Whether the number has at most 13 digits.
+/// Whether the number has at most `MOST_DIGITS` digits.
 fn is_small(n: u64) -> bool
     ensures { result ≡ small n }
 {
     n < TOO_LARGE
 }
 
-/// Whether each number has at most 13 digits.
+/// Whether each number has at most `MOST_DIGITS` digits.
 fn all_small(ns: &[u64]) -> bool
     ensures { result ≡ all_are_small ns.now }
 {

@@ -1,14 +1,15 @@
 -- What the readers of the parts of a line answer.
-use Rattle.std.proofs.Common.{◌≡◌, ℕ, suc, ◌+◌, ◌-◌, ◌<◌, ◌≤◌, true, false, ◌&&◌, eqb, ltb, List, [], ◌∷◌, ◌++◌, length, get_or, take, drop, Some, None, Option, Ok, Err, Result, MatchResult, IsErrAnd, sym, refl, ap, ◌∙◌, subst, ⊎_elim, append_assoc, add-zero, one-add, arith, length-append, take-append-drop, length-take-le, get_or-drop}
+use Rattle.std.proofs.Common.{Bor, ◌≡◌, ℕ, suc, ◌+◌, ◌-◌, ◌<◌, ◌≤◌, true, false, ◌&&◌, eqb, ltb, List, [], ◌∷◌, ◌++◌, length, get_or, take, drop, Some, None, Option, Ok, Err, Result, MatchResult, IsErrAnd, sym, refl, ap, ◌∙◌, subst, ⊎_elim, append_assoc, add-zero, one-add, arith, length-append, take-append-drop, length-take-le, get_or-drop}
 use lib.Seq.{take-append-add}
 use Rattle.std.specs.Int.{is_in_range}
 use Rattle.std.proofs.lemmas.Result.{MatchResult-at_ok, MatchResult-at_err, err_from_is_err_and}
 use Rattle.std.proofs.lemmas.List.{take_rest, take_at, drop_more, get_or_at, get_or-append-add, length_push}
 use Rattle.std.proofs.lemmas.Bool.{cond_both, cond-true, cond-false, and_from, and_left, and_right, eqb-true, ne_eqb, eq-eqb, lt-ltb, le-ltb, le-leb, cases_lt}
 use Rattle.grammar.specs.Grammar.{spaced, Numbers, Arg, number, list, spelled_arg, SoundArg, Form}
-use Rattle.grammar.specs.Machine.{with_arg, top, inside, State, start, word, need, digits, closed, grows, step, stuck, outcome}
+use Rattle.grammar.specs.Machine.{with_arg, top, inside, State, start, word, need, digits, closed, grows, step, whole, stuck, outcome}
 use Rattle.tokens.specs.Ends.{Ends}
-use Rattle.tokens.specs.Pieces.{Run, most_after, Counted, Shut, NoList, Argued, Headed, More}
+use Rattle.grammar.specs.declared.line.TheConstants.{MOST_DIGITS, MOST_LETTERS, MOST_NUMBERS}
+use Rattle.tokens.specs.Pieces.{Run, Counted, Shut, NoList, Argued, Headed, Begun, More, EndStays}
 use Rattle.tokens.specs.Tokens.{arg_of, bytes_of}
 use Rattle.tokens.specs.declared.token.Part.{Part}
 use Rattle.tokens.specs.declared.token.Part.TheVariants.{Word as Lettered, Number as Figures, List as Listed}
@@ -27,7 +28,7 @@ zero_alone b bs e = record {
   stops = and_right _ _ (cond-true _ _ _ (eq-eqb b 48 e));
 }
 
-with_more : (b : ℕ) (bs : List ℕ) (n : ℕ) → 49 ≤ b → b ≤ 57 → Run 48 57 12 bs n → Counted (b ∷ bs) (b ∷ take n bs) (drop n bs)
+with_more : (b : ℕ) (bs : List ℕ) (n : ℕ) → 49 ≤ b → b ≤ 57 → Run 48 57 (MOST_DIGITS - 1) bs n → Counted (b ∷ bs) (b ∷ take n bs) (drop n bs)
 with_more b bs n low high s =
     let long : length (take n bs) ≡ n = length-take-le n bs s.in_bytes in
     let next : get_or (drop n bs) 0 0 ≡ get_or bs n 0 = get_or-drop n bs 0 0 ∙ ap (λ i. get_or bs i 0) (add-zero n) in
@@ -40,21 +41,17 @@ with_more b bs n low high s =
           (cases_lt n 12);
     }
 
-number_at : (b : ℕ) (bs : List ℕ) (n : ℕ) → 48 ≤ b → b ≤ 57 → Run 48 57 (most_after b) bs n → Counted (b ∷ bs) (b ∷ take n bs) (drop n bs)
-number_at b bs n low high s = ⊎_elim
-    (λ h.
-    let e : b ≡ 48 = omega arith in
-    let none : most_after b ≡ 0 = cond-true (eqb b 48) _ _ (eq-eqb b 48 e) in
-    let z : 0 ≡ n = omega (arith, s.few) in
-    subst (λ k. Counted (b ∷ bs) (b ∷ take k bs) (drop k bs)) z (zero_alone b bs e))
-    (λ h. with_more b bs n h high (subst (λ m. Run 48 57 m bs n) (cond-false (eqb b 48) _ _ (ne_eqb b 48 (omega arith))) s))
-    (cases_lt b 49)
+pub counted_zero : (bs front back : List ℕ) → 0 < length bs → get_or bs 0 0 ≡ 48 → front ≡ take 1 bs → back ≡ take (length bs - 1) (drop 1 bs) → Counted bs front back
+counted_zero [] front back some e p q = absurd (omega arith)
+counted_zero (b ∷ bs) front back some e p q =
+    let C : List ℕ → List ℕ → Type 0 = λ x y. Counted (b ∷ bs) x y in
+    subst (λ x. C x back) (sym p) (subst (C (b ∷ [])) (sym (q ∙ tail_is b bs)) (zero_alone b bs e))
 
-pub counted : (bs front back : List ℕ) (n : ℕ) → 0 < length bs → 48 ≤ get_or bs 0 0 → get_or bs 0 0 ≤ 57 → Run 48 57 (most_after (get_or bs 0 0)) (take (length bs - 1) (drop 1 bs)) n → front ≡ take (1 + n) bs → back ≡ drop (1 + n) bs → Counted bs front back
+pub counted : (bs front back : List ℕ) (n : ℕ) → 0 < length bs → 49 ≤ get_or bs 0 0 → get_or bs 0 0 ≤ 57 → Run 48 57 (MOST_DIGITS - 1) (take (length bs - 1) (drop 1 bs)) n → front ≡ take (1 + n) bs → back ≡ drop (1 + n) bs → Counted bs front back
 counted [] front back n some low high r p q = absurd (omega arith)
 counted (b ∷ bs) front back n some low high r p q =
     let C : List ℕ → List ℕ → Type 0 = λ x y. Counted (b ∷ bs) x y in
-    let here = number_at b bs n low high (subst (λ l. Run 48 57 (most_after b) l n) (tail_is b bs) r) in
+    let here = with_more b bs n low high (subst (λ l. Run 48 57 (MOST_DIGITS - 1) l n) (tail_is b bs) r) in
     let e : take (1 + n) (b ∷ bs) ≡ b ∷ take n bs = rw one-add in
     let f : drop (1 + n) (b ∷ bs) ≡ drop n bs = rw one-add in
     subst (λ x. C x back) (sym (p ∙ e)) (subst (C (b ∷ take n bs)) (sym (q ∙ f)) here)
@@ -107,35 +104,35 @@ shut_more most bs ds all after n room k e t =
     get_or_past_front : (p q : List ℕ) (m n : ℕ) → length p ≡ m → get_or (p ++ q) (m + n) 0 ≡ get_or q n 0
     get_or_past_front p q m n h = subst (λ m. get_or (p ++ q) (m + n) 0 ≡ get_or q n 0) h (get_or-append-add p q n 0)
 
-room_after : (ns : List (List ℕ)) (ds : List ℕ) (most : ℕ) → 1 < most → length ns + most ≡ 96 → length (ns ++ ds ∷ []) + (most - 1) ≡ 96
+room_after : (ns : List (List ℕ)) (ds : List ℕ) (most : ℕ) → 1 < most → length ns + most ≡ MOST_NUMBERS → length (ns ++ ds ∷ []) + (most - 1) ≡ MOST_NUMBERS
 room_after ns ds most h k = simp length_push (omega arith)
 
-pub no_list_more : (most : ℕ) (bs ds all after : List ℕ) (left : ℕ) → 1 < most → Counted bs ds all → all ≡ 32 ∷ after → NoList (most - 1) after left → NoList most bs left
+pub no_list_more : (most : ℕ) (bs ds all after : List ℕ) (left : List ℕ) → 1 < most → Counted bs ds all → all ≡ 32 ∷ after → NoList (most - 1) after left → NoList most bs left
 no_list_more most bs ds all after left room k e t =
     subst (λ l. NoList most l left) (sym (k.parts ∙ ap (λ l. ds ++ l) e)) (
       simp length-append (omega (arith, t.0)),
       λ f ns full.
           let next : State = need (inside f (ns ++ ds ∷ [])) in
-          let small : ltb (suc (length ns)) 96 ≡ true = lt-ltb _ 96 (omega arith) in
+          let small : ltb (suc (length ns)) MOST_NUMBERS ≡ true = lt-ltb _ MOST_NUMBERS (omega arith) in
           through_number (inside f ns) ds (32 ∷ after) k.numeral
-          ∙ goes (digits (inside f ns) ds) next 32 after (cond-true (ltb (suc (length ns)) 96) (Some next) None small)
+          ∙ goes (digits (inside f ns) ds) next 32 after (cond-true (ltb (suc (length ns)) MOST_NUMBERS) (Some next) None small)
           ∙ t.1 f (ns ++ ds ∷ []) (room_after ns ds most room full),
     )
 
 -- the byte after a number goes on with no list
-pub no_list_here : (most : ℕ) (bs ds after : List ℕ) → 0 < most → Counted bs ds after → (0 < length after → get_or after 0 0 ≡ 41 → ⊥) → ((tail : List ℕ) → after ≡ 32 ∷ tail → most ≤ 1) → NoList most bs (length after)
+pub no_list_here : (most : ℕ) (bs ds after : List ℕ) → 0 < most → Counted bs ds after → (0 < length after → get_or after 0 0 ≡ 41 → ⊥) → ((tail : List ℕ) → after ≡ 32 ∷ tail → most ≤ 1) → NoList most bs after
 no_list_here most bs ds after some k apart full =
-    subst (λ l. NoList most l (length after)) (sym k.parts) (
+    subst (λ l. NoList most l after) (sym k.parts) (
       simp length-append (omega arith),
       λ f ns h. through_number (inside f ns) ds after k.numeral ∙ blocked f ns h after k.stops apart full,
     )
   where
-    blocked : (f : Form) (ns : List (List ℕ)) → length ns + most ≡ 96 → (after : List ℕ) → (is_in_range 48 57 (get_or after 0 0) && grows ds) ≡ false → (0 < length after → get_or after 0 0 ≡ 41 → ⊥) → ((tail : List ℕ) → after ≡ 32 ∷ tail → most ≤ 1) → outcome (digits (inside f ns) ds) after ≡ stuck (length after)
+    blocked : (f : Form) (ns : List (List ℕ)) → length ns + most ≡ MOST_NUMBERS → (after : List ℕ) → (is_in_range 48 57 (get_or after 0 0) && grows ds) ≡ false → (0 < length after → get_or after 0 0 ≡ 41 → ⊥) → ((tail : List ℕ) → after ≡ 32 ∷ tail → most ≤ 1) → outcome (digits (inside f ns) ds) after ≡ stuck (length after)
     blocked f ns h [] stop apart full = refl
     blocked f ns h (b ∷ after) stop apart full =
         dies (digits (inside f ns) ds) b after (cond-false _ _ _ stop
         ∙ cond_both (eqb b 32) _ _ (λ o. o ≡ None)
-        (λ e. cond-false _ _ _ (le-ltb (suc (length ns)) 96 (omega (arith, full after (ap (λ c. c ∷ after) (eqb-true b 32 e))))))
+        (λ e. cond-false _ _ _ (le-ltb (suc (length ns)) MOST_NUMBERS (omega (arith, full after (ap (λ c. c ∷ after) (eqb-true b 32 e))))))
         (λ _. cond-false _ _ _ (ne_eqb b 41 (apart (omega arith)))))
 
 -- the head
@@ -147,7 +144,7 @@ alike : (s t : State) (b : ℕ) (bs : List ℕ) → step s b ≡ step t b → ou
 alike s t b bs e = ap (λ (o : Option State). elim o [ None ↦ stuck (suc (length bs)) | Some t ↦ outcome t bs ]) e
 
 -- what the next byte can do no longer depends on how the word, or the number, began
-word_over : (w rest : List ℕ) → 1 ≤ length w → (is_in_range 97 122 (get_or rest 0 0) && ltb (length w) 8) ≡ false → outcome (word w) rest ≡ outcome (closed (record { head = w; args = [] })) rest
+word_over : (w rest : List ℕ) → 1 ≤ length w → (is_in_range 97 122 (get_or rest 0 0) && ltb (length w) MOST_LETTERS) ≡ false → outcome (word w) rest ≡ outcome (closed (record { head = w; args = [] })) rest
 word_over [] rest some stop = absurd (omega arith)
 word_over (x ∷ w) [] some stop = refl
 word_over (x ∷ w) (b ∷ bs) some stop = alike (word (x ∷ w)) (closed (record { head = x ∷ w; args = [] })) b bs (cond-false _ _ _ stop)
@@ -156,19 +153,19 @@ number_over : (f : Form) (ds rest : List ℕ) → (is_in_range 48 57 (get_or res
 number_over f ds [] stop = refl
 number_over f ds (b ∷ bs) stop = alike (digits (top f) ds) (closed (with_arg f (number ds))) b bs (cond-false _ _ _ stop)
 
-pub headed : (bs w rest : List ℕ) (n : ℕ) → 0 < length bs → get_or bs 0 0 ≡ 40 → Run 97 122 8 (take (length bs - 1) (drop 1 bs)) n → 0 < n → w ≡ take n (take (length bs - 1) (drop 1 bs)) → rest ≡ drop n (take (length bs - 1) (drop 1 bs)) → Headed bs w rest
+pub headed : (bs w rest : List ℕ) (n : ℕ) → 0 < length bs → get_or bs 0 0 ≡ 40 → Run 97 122 MOST_LETTERS (take (length bs - 1) (drop 1 bs)) n → 0 < n → w ≡ take n (take (length bs - 1) (drop 1 bs)) → rest ≡ drop n (take (length bs - 1) (drop 1 bs)) → Headed bs w rest
 headed [] w rest n some e r more p q = absurd (omega arith)
 headed (b ∷ bs) w rest n some e r more p q =
-    let s : Run 97 122 8 bs n = subst (λ l. Run 97 122 8 l n) (tail_is b bs) r in
+    let s : Run 97 122 MOST_LETTERS bs n = subst (λ l. Run 97 122 MOST_LETTERS l n) (tail_is b bs) r in
     let p' : w ≡ take n bs = p ∙ ap (take n) (tail_is b bs) in
     let q' : rest ≡ drop n bs = q ∙ ap (drop n) (tail_is b bs) in
     let long : length (take n bs) ≡ n = length-take-le n bs s.in_bytes in
     let next : get_or (drop n bs) 0 0 ≡ get_or bs n 0 = get_or-drop n bs 0 0 ∙ ap (λ i. get_or bs i 0) (add-zero n) in
-    let stop : (is_in_range 97 122 (get_or (drop n bs) 0 0) && ltb (length (take n bs)) 8) ≡ false =
+    let stop : (is_in_range 97 122 (get_or (drop n bs) 0 0) && ltb (length (take n bs)) MOST_LETTERS) ≡ false =
     ⊎_elim
     (λ h. and_left _ _ (ap (is_in_range 97 122) next ∙ s.stops h))
-    (λ h. and_right _ _ (le-ltb (length (take n bs)) 8 (omega arith)))
-    (cases_lt n 8) in
+    (λ h. and_right _ _ (le-ltb (length (take n bs)) MOST_LETTERS (omega arith)))
+    (cases_lt n MOST_LETTERS) in
     let here : Headed (b ∷ bs) (take n bs) (drop n bs) = record {
       word = (s.all, omega arith, omega (arith, s.few));
       parts = ap (λ c. c ∷ bs) e ∙ ap (λ l. 40 ∷ l) (sym (take-append-drop n bs));
@@ -178,9 +175,25 @@ headed (b ∷ bs) w rest n some e r more p q =
     } in
     subst (λ x. Headed (b ∷ bs) x rest) (sym p') (subst (λ y. Headed (b ∷ bs) (take n bs) y) (sym q') here)
 
+-- the first letter, and those that follow it
+run_more : (lo hi most n : ℕ) (bs : List ℕ) → 0 < length bs → is_in_range lo hi (get_or bs 0 0) ≡ true → Run lo hi most (take (length bs - 1) (drop 1 bs)) n → Run lo hi (suc most) bs (1 + n)
+run_more lo hi most n [] some first r = absurd (omega arith)
+run_more lo hi most n (b ∷ bs) some first r =
+    let s : Run lo hi most bs n = subst (λ l. Run lo hi most l n) (tail_is b bs) r in
+    record { in_bytes = omega (arith, s.in_bytes); few = omega (arith, s.few); all = rw one-add (and_from _ _ first s.all); stops = λ h. rw one-add (s.stops (omega arith)) }
+
+pub run_of_word : (n : ℕ) (bs : List ℕ) → 0 < length bs → 97 ≤ get_or bs 0 0 → get_or bs 0 0 ≤ 122 → Run 97 122 (MOST_LETTERS - 1) (take (length bs - 1) (drop 1 bs)) n → Run 97 122 MOST_LETTERS bs (1 + n)
+run_of_word n bs some low high r = run_more 97 122 (MOST_LETTERS - 1) n bs some (and_from _ _ (le-leb 97 (get_or bs 0 0) low) (le-leb (get_or bs 0 0) 122 high)) r
+
 -- the word stands after one byte
-pub first_word : (line w rest : List ℕ) → Headed line w rest → (take 1 line ++ (w ++ rest) ≡ line) × (outcome start line ≡ outcome (closed (record { head = w; args = [] })) rest)
-first_word line w rest h = (subst (λ l. take 1 l ++ (w ++ rest) ≡ l) (sym h.parts) refl, h.leads)
+pub first_word : (line rest : List ℕ) (letters : Bor (List ℕ)) → Headed line letters.now rest → Begun line (record { part = Lettered letters; place = 1 }) rest
+first_word line rest letters h = record {
+  word = refl;
+  sound = h.word;
+  behind = refl;
+  placed = subst (λ l. take 1 l ++ (letters.now ++ rest) ≡ l) (sym h.parts) refl;
+  leads = h.leads;
+}
 
 -- an argument
 
@@ -195,10 +208,10 @@ argued_number bs rest p ds e k =
     let there : A (arg_of p) = subst A (sym e) here in
     record { sound = there.0; parts = there.1; leads = there.2 }
 
-pub argued_list : (bs rest : List ℕ) (p : Part) (n : ℕ) → 0 < length bs → get_or bs 0 0 ≡ 40 → Shut 96 (take (length bs - 1) (drop 1 bs)) n → arg_of p ≡ list (take n (take (length bs - 1) (drop 1 bs))) → rest ≡ drop (n + 1) (take (length bs - 1) (drop 1 bs)) → Argued bs p rest
+pub argued_list : (bs rest : List ℕ) (p : Part) (n : ℕ) → 0 < length bs → get_or bs 0 0 ≡ 40 → Shut MOST_NUMBERS (take (length bs - 1) (drop 1 bs)) n → arg_of p ≡ list (take n (take (length bs - 1) (drop 1 bs))) → rest ≡ drop (n + 1) (take (length bs - 1) (drop 1 bs)) → Argued bs p rest
 argued_list [] rest p n some e s r q = absurd (omega arith)
 argued_list (b ∷ bs) rest p n some e s r q =
-    let u : Shut 96 bs n = subst (λ l. Shut 96 l n) (tail_is b bs) s in
+    let u : Shut MOST_NUMBERS bs n = subst (λ l. Shut MOST_NUMBERS l n) (tail_is b bs) s in
     let r' : arg_of p ≡ list (take n bs) = r ∙ ap (λ l. list (take n l)) (tail_is b bs) in
     let q' : rest ≡ drop (n + 1) bs = q ∙ ap (drop (n + 1)) (tail_is b bs) in
     let parts : bs ≡ take n bs ++ 41 ∷ rest =
@@ -231,17 +244,18 @@ bytes_of_sound (Lettered w) h = absurd (omega (arith, h.1))
 bytes_of_sound (Figures ds) h = refl
 bytes_of_sound (Listed ns) h = refl
 
-pub next_argument : (line all bs rest : List ℕ) (p : Part) → Ends line all → all ≡ 32 ∷ bs → Argued bs p rest → More line all (record { part = p; place = length line - length bs }) rest × (length rest ≤ length line) × Ends line rest
-next_argument line all bs rest p before e u =
+pub next_argument : (line all bs rest : List ℕ) (p : Part) (place : ℕ) → place ≡ length line - length bs → Ends line all → all ≡ 32 ∷ bs → Argued bs p rest → More line all (record { part = p; place = place }) rest × (length rest ≤ length line) × Ends line rest
+next_argument line all bs rest p place at before e u =
     let ends : Ends line (32 ∷ bs) = subst (Ends line) e before in
     let bytes : bs ≡ bytes_of p ++ rest = u.parts ∙ ap (λ l. l ++ rest) (bytes_of_sound p u.sound) in
     let front : List ℕ = take (length line - length (32 ∷ bs)) line in
     let here = ends_of (front ++ 32 ∷ []) bs line (append_assoc front (32 ∷ []) bs ∙ ends) in
     let there = ends_of (front ++ 32 ∷ bytes_of p) rest line (append_assoc front (32 ∷ bytes_of p) rest ∙ ap (λ l. front ++ 32 ∷ l) (sym bytes) ∙ ends) in (
       record {
+        spelled = e ∙ ap (λ l. 32 ∷ l) bytes;
         shorter = omega (arith, simp length-append at (ap length u.parts), ap length e);
         sound = u.sound;
-        placed = ap (λ l. take (length line - length bs) line ++ l) (sym bytes) ∙ here.1;
+        placed = ap (λ n. take n line ++ (bytes_of p ++ rest)) at ∙ ap (λ l. take (length line - length bs) line ++ l) (sym bytes) ∙ here.1;
         leads = λ f. ap (outcome (closed f)) e ∙ at_space f bs ∙ u.leads f;
       },
       there.0,
@@ -265,3 +279,14 @@ mapped_err P Q C r was cases known = MatchResult-at_err _ _ _ was (mapped P Q C 
 -- what the exit of a `?` returns
 pub exit_is : {T E : Type 0} {e : E} {r : Result T E} → IsErrAnd r (λ d. d ≡ e) → r ≡ Err e
 exit_is h = let p = err_from_is_err_and _ h in p.1 ∙ ap Err p.2
+
+-- at the end of the line
+pub end_stays : EndStays
+end_stays line bs after rest (Ok None) n k = (refl, k.0 ∙ n.0)
+end_stays line bs after rest (Ok (Some t)) n k = let z : ◌≡◌ {A = ℕ} 41 32 = ap (λ l. get_or l 0 0) (sym (n.0 ∙ n.1) ∙ k.spelled) in absurd (omega arith)
+end_stays line bs after rest (Err e) n k =
+    let f : Form = record { head = []; args = [] } in
+    absurd (never (ap (outcome (closed f)) (sym (n.0 ∙ n.1)) ∙ k.3 f))
+  where
+    never : {f : Form} {k : ℕ} → whole f ≡ stuck k → ⊥
+    never e = cc

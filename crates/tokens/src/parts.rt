@@ -1,10 +1,10 @@
 //! Reads the words, numbers and lists at the front of what is left of a line.
-ghost use Rattle.std.specs.Prelude.{◌≡◌, ℕ, ◌<◌, false, List, ◌∷◌, MatchOption, MatchResult, ◌≢◌, slice_index};
+ghost use Rattle.std.specs.Prelude.{◌≡◌, ℕ, ◌-◌, ◌<◌, false, List, ◌∷◌, MatchOption, MatchResult, ◌≢◌, slice_index};
 ghost use Rattle.std.specs.Int.{is_in_range};
-ghost use Rattle.tokens.specs.Pieces.{Run, most_after, Counted, Shut, NoList, Argued, NoArgument, Headed, NoHead};
+ghost use Rattle.tokens.specs.Pieces.{Run, Counted, Shut, NoList, Argued, NoArgument, Headed, NoHead};
 
 use super::token::Part;
-use grammar::line::MOST_NUMBERS;
+use grammar::line::{MOST_DIGITS, MOST_LETTERS, MOST_NUMBERS};
 
 /// How many bytes at the front are from `low` to `high`, counting at most `most`.
 fn run(rest: &[u8], low: u8, high: u8, most: usize) -> usize
@@ -17,19 +17,18 @@ fn run(rest: &[u8], low: u8, high: u8, most: usize) -> usize
         .count()
 }
 
-/// How many letters at the front are a word's.
-fn letters(rest: &[u8]) -> usize
-    ensures { Run 97 122 8 rest.now result }
+/// How many letters at the front belong to the word whose first letter stands before them.
+fn more_letters(rest: &[u8]) -> usize
+    ensures { Run 97 122 (MOST_LETTERS - 1) rest.now result }
 {
-    run(rest, b'a', b'z', 8)
+    run(rest, b'a', b'z', MOST_LETTERS - 1)
 }
 
-/// How many digits at the front belong to the number whose first digit stands before them: none after a zero.
-fn more_digits(first: u8, rest: &[u8]) -> usize
-    ensures { Run 48 57 (most_after first) rest.now result }
+/// How many digits at the front belong to the number whose first digit, 1 to 9, stands before them.
+fn more_digits(rest: &[u8]) -> usize
+    ensures { Run 48 57 (MOST_DIGITS - 1) rest.now result }
 {
-    let most = if first == b'0' { 0 } else { 12 };
-    run(rest, b'0', b'9', most)
+    run(rest, b'0', b'9', MOST_DIGITS - 1)
 }
 
 /// The number at the front, and what follows it.
@@ -37,7 +36,8 @@ pub fn number(rest: &[u8]) -> Option<(&[u8], &[u8])>
     ensures { MatchOption result (is_in_range 48 57 (slice_index rest.now 0) ≡ false) (λ p. Counted rest.now p.0.now p.1.now) }
 {
     match rest {
-        [first @ b'0'..=b'9', tail @ ..] => Some(rest.split_at(1 + more_digits(*first, tail))),
+        [b'0', tail @ ..] => Some((&rest[..1], tail)),
+        [b'1'..=b'9', tail @ ..] => Some(rest.split_at(1 + more_digits(tail))),
         _ => None,
     }
 }
@@ -50,31 +50,31 @@ pub fn past_space(rest: &[u8]) -> Option<&[u8]>
 }
 
 /// How many bytes at the front are 1 to `most` numbers with one space between, before a closing bracket;
-/// or how many bytes are left where they go wrong.
-fn numbers(rest: &[u8], most: usize) -> Result<usize, usize>
+/// or what is left where they go wrong.
+fn numbers(rest: &[u8], most: usize) -> Result<usize, &[u8]>
     requires { 0 < most }
-    ensures { MatchResult result (Shut most rest.now) (NoList most rest.now) }
+    ensures { MatchResult result (Shut most rest.now) (λ left. NoList most rest.now left.now) }
 {
-    let (digits, after) = number(rest).ok_or(rest.len())?;
+    let (digits, after) = number(rest).ok_or(rest)?;
     if let [b')', ..] = after {
         return Ok(digits.len());
     }
     match past_space(after) {
         Some(tail) if most > 1 => Ok(digits.len() + 1 + numbers(tail, most - 1)?),
-        _ => Err(after.len()),
+        _ => Err(after),
     }
 }
 
-/// How many bytes at the front are the numbers of a list; or how many bytes are left where they go wrong.
-fn list(rest: &[u8]) -> Result<usize, usize>
-    ensures { MatchResult result (Shut 96 rest.now) (NoList 96 rest.now) }
+/// How many bytes at the front are the numbers of a list; or what is left where they go wrong.
+fn list(rest: &[u8]) -> Result<usize, &[u8]>
+    ensures { MatchResult result (Shut MOST_NUMBERS rest.now) (λ left. NoList MOST_NUMBERS rest.now left.now) }
 {
     numbers(rest, MOST_NUMBERS)
 }
 
-/// The number or the list at the front, and what follows it; or how many bytes are left where it goes wrong.
-pub(crate) fn argument<'a>(rest: &'a [u8]) -> Result<(Part<'a>, &'a [u8]), usize>
-    ensures { MatchResult result (λ p. Argued rest.now p.0 p.1.now) (NoArgument rest.now) }
+/// The number or the list at the front, and what follows it; or what is left where it goes wrong.
+pub(crate) fn argument<'a>(rest: &'a [u8]) -> Result<(Part<'a>, &'a [u8]), &'a [u8]>
+    ensures { MatchResult result (λ p. Argued rest.now p.0 p.1.now) (λ left. NoArgument rest.now left.now) }
 {
     match rest {
         [b'(', tail @ ..] => {
@@ -83,20 +83,20 @@ pub(crate) fn argument<'a>(rest: &'a [u8]) -> Result<(Part<'a>, &'a [u8]), usize
         }
         _ => match number(rest) {
             Some((digits, after)) => Ok((Part::Number(digits), after)),
-            None => Err(rest.len()),
+            None => Err(rest),
         },
     }
 }
 
-/// The word after the bracket that a line begins with, and what follows it; or how many bytes are left where it goes wrong.
-pub(crate) fn word(line: &[u8]) -> Result<(&[u8], &[u8]), usize>
-    ensures { MatchResult result (λ p. Headed line.now p.0.now p.1.now) (NoHead line.now) }
+/// The word after the bracket that a line begins with, and what follows it; or what is left where it goes wrong.
+pub(crate) fn word(line: &[u8]) -> Result<(&[u8], &[u8]), &[u8]>
+    ensures { MatchResult result (λ p. Headed line.now p.0.now p.1.now) (λ left. NoHead line.now left.now) }
 {
     let [b'(', rest @ ..] = line else {
-        return Err(line.len());
+        return Err(line);
     };
-    match letters(rest) {
-        0 => Err(rest.len()),
-        n => Ok(rest.split_at(n)),
+    match rest {
+        [b'a'..=b'z', tail @ ..] => Ok(rest.split_at(1 + more_letters(tail))),
+        _ => Err(rest),
     }
 }

@@ -8,6 +8,20 @@ pub enum Part<'a> {
     List(&'a [u8]),
 }
 
+impl<'a> Part<'a> {
+    ghost use Rattle.std.specs.Prelude.{◌≡◌};
+    ghost use Rattle.tokens.specs.Tokens.{text_of};
+
+    /// Its letters, its digits, or what stands between its brackets.
+    pub fn text(self) -> &'a [u8]
+        ensures { result.now ≡ text_of self.entry }
+    {
+        match self {
+            Part::Word(text) | Part::Number(text) | Part::List(text) => text,
+        }
+    }
+}
+
 /// A word of no letters.
 impl Default for Part<'_> {
     ghost use Rattle.std.specs.Prelude.{◌≡◌, []};

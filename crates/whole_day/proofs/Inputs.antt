@@ -1,6 +1,7 @@
 -- Lines taken from an input.
 use Rattle.std.proofs.Common.{◌≡◌, ◌≢◌, ℕ, ◌+◌, ◌-◌, ◌<◌, ◌≤◌, Bool, true, false, List, [], ◌∷◌, ◌++◌, length, get_or, take, drop, None, Some, Ok, Err, Option, Result, sym, refl, ap, ◌∙◌, subst, arith, append_assoc, append-nil, length-take, length-drop, eq-eqb}
 use Rattle.lines.proofs.Whole.{take_again}
+use Rattle.grammar.specs.declared.line.TheConstants.{LONGEST_LINE}
 use Rattle.memchr.specs.Find.{NoneBefore, Nowhere, Passes, is_byte}
 use Rattle.std.specs.Prelude.{min, IsOk, OnOk}
 use Rattle.std.proofs.Math.Seq.{take-append-add, take-length}
@@ -38,7 +39,7 @@ Plain-before bytes n h none = All-from_get_or (λ byte. byte ≢ 10) (take n byt
 
 module _ (ahead line line' : List ℕ) where
   kept_by : (bytes : List ℕ) → line' ≡ cut (line ++ bytes) → (raw : List ℕ) → line ≡ cut raw → line' ≡ cut (raw ++ bytes)
-  kept_by bytes kept raw is = kept ∙ ap (λ l. cut (l ++ bytes)) is ∙ take_again 1025 raw bytes
+  kept_by bytes kept raw is = kept ∙ ap (λ l. cut (l ++ bytes)) is ∙ take_again (LONGEST_LINE + 1) raw bytes
 
   pub took_fed : (at : ℕ) → NoneBefore (Passes (is_byte 10) ahead) 0 (length ahead) at → Passes (is_byte 10) ahead at → line' ≡ cut (line ++ take at ahead) → Took ahead line line' (at + 1) true
   took_fed at none feed_at kept = record {

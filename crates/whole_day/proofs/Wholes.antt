@@ -12,6 +12,9 @@ use Rattle.book.specs.States.{State, no_station, presence, short_pages, state}
 use Rattle.book.specs.declared.book.Book.{Book}
 use Rattle.posting.specs.declared.pages.Pages.{Pages}
 use Rattle.answering.proofs.Days.{came_own, lawful_day}
+use Rattle.grammar.specs.declared.line.TheConstants.{LONGEST_LINE}
+use Rattle.spell.specs.declared.answers.TheConstants.{ANSWER_PAGE}
+use Rattle.spell.specs.declared.statement.TheConstants.{STATEMENT_PAGE}
 use Rattle.law.specs.Data.{layout_of}
 use Rattle.law.specs.Figures.{stations_in}
 use Rattle.whole_day.specs.Days.{AnsweredAll, AnsweredBy, AnsweredRest, AreLines, Day, NextAll, OpenedBy, StatedAll, all_fed, answers_text, entry_of, fed_lines, last_unfed, no_line, ran, statements_to, unopened}
@@ -130,15 +133,15 @@ stated_more code t s out out' n a b c e before this =
     let told_is = front_told (untold t s out) wanted out out' n e in
     let both = Appends-trans a b c (statements_to code s t) wanted before.written (subst (Appends b c) told_is this) in
     record {
-      each = below_more (λ k. presence k s ≡ None) t before.each (none_second (short_page 4096 out) (presence t s) (none_told (untold t s out) wanted out out' n e));
+      each = below_more (λ k. presence k s ≡ None) t before.each (none_second (short_page STATEMENT_PAGE out) (presence t s) (none_told (untold t s out) wanted out out' n e));
       written = subst (λ k. Appends a c (statements_to code s k)) (sym (add-one t)) both;
     }
 
-pub stated_until : (code t : ℕ) (s : State) (out out' : List ℕ) (f : Fault) (a b : Option (List ℕ)) → length out ≡ 4096 → wrote (Err f) out' ≡ telling code t s out → StatedBelow code s t a b → StatedAll code s a b
+pub stated_until : (code t : ℕ) (s : State) (out out' : List ℕ) (f : Fault) (a b : Option (List ℕ)) → length out ≡ STATEMENT_PAGE → wrote (Err f) out' ≡ telling code t s out → StatedBelow code s t a b → StatedAll code s a b
 stated_until code t s out out' f a b size e so = record {
   stations = t;
   each = so.each;
-  last = inr (some_second (short_page 4096 out) (presence t s) (has_room 4096 out size) (untold_is (untold t s out) (statement_text (station_line code t s) (generator_lines t s)) out out' f e));
+  last = inr (some_second (short_page STATEMENT_PAGE out) (presence t s) (has_room STATEMENT_PAGE out size) (untold_is (untold t s out) (statement_text (station_line code t s) (generator_lines t s)) out out' f e));
   written = so.written;
 }
 
@@ -153,7 +156,7 @@ none_taken n [] e = refl
 none_taken n (b ∷ bytes) e = cc
 
 cut_none : (bytes line : List ℕ) → line ≡ cut bytes → line ≡ [] → bytes ≡ []
-cut_none bytes line is none = none_taken 1024 bytes (sym is ∙ none)
+cut_none bytes line is none = none_taken LONGEST_LINE bytes (sym is ∙ none)
 
 none_cut : (bytes line : List ℕ) → line ≡ cut bytes → line ≢ [] → bytes ≢ []
 none_cut bytes line is some none = some (is ∙ ap cut none)
@@ -196,12 +199,12 @@ pub next_as : (known new : Option (List ℕ)) (line : List ℕ) (fed v : Bool) �
 next_as known new line fed v is next = subst (λ f. NextLine known new line f) is next
 
 module _ {T K : Type 0} {prices : tariff.Ghosts T} {keys : key.Ghosts K} where
-  pub answered_by : (line out out' : List ℕ) (b b' : Book T K prices keys) (p p' : Pages) (n : ℕ) (before after : Option (List ℕ)) → length out ≡ 64 → Lined line out b p b' p' out' (Ok n) → Appends before after (take n out')
+  pub answered_by : (line out out' : List ℕ) (b b' : Book T K prices keys) (p p' : Pages) (n : ℕ) (before after : Option (List ℕ)) → length out ≡ ANSWER_PAGE → Lined line out b p b' p' out' (Ok n) → Appends before after (take n out')
       → AnsweredBy line b p b' p' before after
   answered_by line out out' b b' p p' n before after size lined appended = record {
     answer = lined.answer;
     next = subst (λ k. Next (text line k) lined.answer b p b' p') size lined.next;
-    written = subst (Appends before after) (front_told (short_page 64 out) (answer_text lined.answer) out out' n lined.written) appended;
+    written = subst (Appends before after) (front_told (short_page ANSWER_PAGE out) (answer_text lined.answer) out out' n lined.written) appended;
   }
 
   opened_with : (t : T) (k : K) (line out out' : List ℕ) (p p' : Pages) (n : ℕ) (book : Option (Book T K prices keys)) (before after : Option (List ℕ))
@@ -246,11 +249,11 @@ module _ {T K : Type 0} {prices : tariff.Ghosts T} {keys : key.Ghosts K} where
   pub so_far_none : (known : Option (List ℕ)) (b : Book T K prices keys) (p : Pages) (before : Option (List ℕ)) → SoFar known known b p b p before before
   so_far_none known b p before = record { lines = []; answers = []; plain = All-nil Plain; taken = Consumes-nil known; next = next_none b p; written = Appends-nil before }
 
-  line_next : (line bytes : List ℕ) (q : Answer) (xs : List (List ℕ)) (qs : List Answer) (b m e : Book T K prices keys) (p l r : Pages) → line ≡ cut bytes → NextAll (map entry_of xs) qs b p m l → Next (text line 64) q m l e r
+  line_next : (line bytes : List ℕ) (q : Answer) (xs : List (List ℕ)) (qs : List Answer) (b m e : Book T K prices keys) (p l r : Pages) → line ≡ cut bytes → NextAll (map entry_of xs) qs b p m l → Next (text line ANSWER_PAGE) q m l e r
       → NextAll (map entry_of (xs ++ bytes ∷ [])) (qs ++ q ∷ []) b p e r
   line_next line bytes q xs qs b m e p l r is all one =
       subst (λ ys. NextAll ys (qs ++ q ∷ []) b p e r) (sym (map-append entry_of xs (bytes ∷ [])))
-      (next_more (map entry_of xs) (entry_of bytes) qs q b m e p l r all (subst (λ y. Next (text y 64) q m l e r) is one))
+      (next_more (map entry_of xs) (entry_of bytes) qs q b m e p l r all (subst (λ y. Next (text y ANSWER_PAGE) q m l e r) is one))
 
   pub so_far_more : (old new newer : Option (List ℕ)) (line : List ℕ) (b m e : Book T K prices keys) (p l r : Pages) (before held after afterwards : Option (List ℕ))
       → SoFar old new b p m l before held → NextLine new newer line true → Keeps held after → AnsweredBy line m l e r after afterwards → SoFar old newer b p e r before afterwards

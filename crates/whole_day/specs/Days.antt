@@ -14,6 +14,7 @@ use Rattle.units.specs.Calls.{opens}
 use Rattle.grammar.specs.Reads.{Accepted}
 use Rattle.share.specs.declared.key.Key as key
 use Rattle.spell.specs.Answers.{answer_text}
+use Rattle.spell.specs.declared.answers.TheConstants.{ANSWER_PAGE}
 use Rattle.spell.specs.Statements.{statement_text}
 use Rattle.std.specs.Io.KnownBytes.{Appends, Consumes, IsAtEnd, Keeps}
 use Rattle.std.specs.List.{flat_map}
@@ -31,9 +32,9 @@ pub data AreLines (input : List ℕ) (lines : List (List ℕ)) : Type 0 where
   last_unfed : (front : List (List ℕ)) (last : List ℕ) → lines ≡ front ++ last ∷ [] → last ≢ []
       → input ≡ fed_lines front ++ last → AreLines input lines
 
--- a line as an entry: of one that is too long so much as shows it; its page for the answer has 64 bytes
+-- a line as an entry: of one that is too long so much as shows it; its page for the answer is the least
 abbrev pub entry_of : List ℕ → Entry
-entry_of line = text (cut line) 64
+entry_of line = text (cut line) ANSWER_PAGE
 
 abbrev pub answers_text : List Answer → List ℕ
 answers_text = flat_map answer_text
@@ -66,7 +67,7 @@ pub record AnsweredBy {T K : Type 0} {prices : tariff.Ghosts T} {keys : key.Ghos
     (line : List ℕ) (b : Book T K prices keys) (p : Pages) (b' : Book T K prices keys) (p' : Pages)
     (before after : Option (List ℕ)) : Type 0 where
   pub answer : Answer
-  pub next : Next (text line 64) answer b p b' p'
+  pub next : Next (text line ANSWER_PAGE) answer b p b' p'
   pub written : Appends before after (answer_text answer)
 
 -- whatever came before, these entries come next, with these answers

@@ -1,6 +1,6 @@
 -- Lines of an input, and what of it is known to be left.
 use Rattle.std.specs.Prelude.{◌≡◌, ◌≢◌, ℕ, ◌+◌, ◌-◌, ◌≤◌, Bool, true, false, List, [], ◌∷◌, ◌++◌, All, length, take, drop, vec_items, Option}
-use Rattle.grammar.specs.Reads.{most_bytes}
+use Rattle.grammar.specs.declared.line.TheConstants.{LONGEST_LINE}
 use Rattle.whole_day.specs.declared.ahead.Ahead.{Ahead}
 use Rattle.std.specs.Io.KnownBytes.{Consumes, IsAtEnd, prepend_known}
 
@@ -15,7 +15,7 @@ feed false = []
 
 -- as much of a line as is kept: one byte more than a line may have, so that a longer one is refused
 abbrev pub cut : List ℕ → List ℕ
-cut = take (most_bytes + 1)
+cut = take (LONGEST_LINE + 1)
 
 -- Bytes were taken up to a line feed, and it too, or all; the line, of which so much is kept, grew
 -- by them.

@@ -17,8 +17,8 @@ pub(crate) type Line = ArrayVec<u8, MOST_KEPT>;
 
 /// For how many of so many bytes the line has room.
 fn fitting(line: &Line, count: usize) -> usize
-    ensures fits { length line.now.items + result ≤ 1025 }
-    ensures most { result ≡ min count (1025 - length line.now.items) }
+    ensures fits { length line.now.items + result ≤ MOST_KEPT }
+    ensures most { result ≡ min count (MOST_KEPT - length line.now.items) }
 {
     count.min(MOST_KEPT - line.len())
 }

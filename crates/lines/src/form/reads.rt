@@ -2,8 +2,9 @@
 ghost use Rattle.std.specs.Prelude.{◌≡◌, [], ◌∷◌, ◌++◌, take};
 ghost use Rattle.lines.specs.Forms.{ReadsForm};
 
-use super::{MOST_BYTES, MOST_GATHERED, Parts};
+use super::{MOST_GATHERED, Parts};
 use arrayvec::ArrayVec;
+use grammar::line::LONGEST_LINE;
 use tokens::reader::Reader;
 use tokens::token::Part;
 use units::fault::Fault;
@@ -22,13 +23,13 @@ fn keep<'a>(args: &mut ArrayVec<Part<'a>, MOST_GATHERED>, arg: Part<'a>)
 pub fn read_form<'a>(line: &'a [u8]) -> Result<Parts<'a>, Fault>
     ensures { ReadsForm line.now result }
 {
-    if line.len() > MOST_BYTES {
+    if line.len() > LONGEST_LINE {
         return Err(Fault::LongLine {
             length: line.len() as u64,
         });
     }
     let mut reader = Reader::new(line);
-    let letters = reader.word()?;
+    let letters = reader.word()?.part.text();
     let mut args = ArrayVec::new();
     let mut count = 0;
     while let Some(token) = reader.next()? {

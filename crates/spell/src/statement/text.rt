@@ -51,7 +51,7 @@ impl Statement<'_> {
     #[tactic(auto, using(crate::proofs::Laying::laying))]
     fn write_lines(&self, writer: &mut Writer)
         requires { writer.old.at ≡ 0 }
-        ensures { Writes (statement_text self.now.station self.now.generators.now) 4096 writer.old writer.new }
+        ensures { Writes (statement_text self.now.station self.now.generators.now) STATEMENT_PAGE writer.old writer.new }
     {
         self.station.write(writer);
         for g in self.generators {

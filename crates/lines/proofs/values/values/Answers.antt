@@ -7,6 +7,7 @@ use Rattle.std.proofs.lemmas.Iterator.Splits.{YieldsList-from_slice_split}
 use Rattle.std.proofs.lemmas.List.{length-map}
 use Rattle.std.specs.List.{slice_split}
 use Rattle.grammar.specs.Calls.{read_on}
+use Rattle.grammar.specs.declared.line.TheConstants.{MOST_NUMBERS}
 use Rattle.lines.proofs.Listing.{pieces_are, numeral_at}
 use Rattle.lines.proofs.Room.{all_added}
 use Rattle.lines.proofs.values.values.Goals as goal
@@ -28,7 +29,7 @@ returns c =
     c.as_slice.ensures.value ∙ (
     let h = c.extend-added.ensures in
     let same = pieces_are c.args.numbers.now in
-    all_added _ c.extend-added.new.self.items 96 c.extend-added.result h.ran h.full h.one_more
+    all_added _ c.extend-added.new.self.items MOST_NUMBERS c.extend-added.result h.ran h.full h.one_more
     (YieldsList-from_map _ (read_on 0) (YieldsList-at c.map.ensures.source (YieldsList-from_slice_split _ (λ b. eqb b 32) c.args.numbers.now c.split.ensures.rest c.split.ensures.done c.split.ensures.closure (λ x b q k. search (rules, tests)))) c.map.ensures.closure (λ x r q k. search rules))
     (ap (λ v. v.items) c.insert-values.ensures.value ∙ c.new.ensures)
     (omega (arith, length-map (slice_split (λ b. eqb b 32) c.args.numbers.now) (read_on 0), ap length same, c.requires.few))

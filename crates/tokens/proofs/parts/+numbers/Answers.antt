@@ -1,7 +1,7 @@
 use Rattle.std.proofs.Common.{arith, ltb-true}
 use Rattle.tokens.proofs.Pieces.{shut_one, shut_more, no_list_more, no_list_here, exit_is}
 use Rattle.tokens.proofs.parts.+numbers.Goals as goal
-use Rattle.tokens.proofs.parts.+numbers.Goals.{then-after-lt1, else-after-lt1+in_default-1}
+use Rattle.tokens.proofs.parts.+numbers.Goals.{then-after-lt1, else-after-lt1+in_default-1, in_default-past_space-via-in-Some+else-most-gt1, in_default-past_space-via-in_default-past_space}
 
 pub returns-in-41 : goal.returns-in-41
 returns-in-41 t c =
@@ -23,11 +23,7 @@ returns-in_default-past_space t c =
     let n = rw c.in_ok-digits.ensures.ok_part at c.number.ensures in
     no_list_here _ _ _ _ c.requires n
     (λ some e. elim c.if-after-lt1.branch [ then-after-lt1 w ↦ omega (arith, ltb-true) | else-after-lt1+in_default-1 w ↦ omega arith ])
-    (λ tail e. c.if-most-gt1.false)
-
-pub returns-in_default-past_space-2 : goal.returns-in_default-past_space-2
-returns-in_default-past_space-2 t c =
-    let n = rw c.in_ok-digits.ensures.ok_part at c.number.ensures in
-    no_list_here _ _ _ _ c.requires n
-    (λ some e. elim c.if-after-lt1.branch [ then-after-lt1 w ↦ omega (arith, ltb-true) | else-after-lt1+in_default-1 w ↦ omega arith ])
-    (let none = rw c.in_default-past_space.is at c.past_space.ensures in λ tail e. absurd (none tail e))
+    (elim c.in_default-past_space.branch [
+      | in_default-past_space-via-in-Some+else-most-gt1 w ↦ λ tail e. w.if-most-gt1.false
+      | in_default-past_space-via-in_default-past_space w ↦ let none = rw w.in_default-past_space.is at c.past_space.ensures in λ tail e. absurd (none tail e)
+    ])

@@ -9,11 +9,11 @@ loop-token-preserved c =
     (c.next.ensures.line ∙ c.loop-token.invariant.0, omega (arith, more.shorter, c.loop-token.invariant.1), gather c.loop-token.invariant.2 more c.keep.ensures)
 
 pub returns : goal.returns
-returns c = read c.args.line.now _ _ (omega arith) c.loop-token.invariant.2 (rw c.in_default.is at c.in_ok-token.ensures.next)
+returns c = read c.args.line.now _ _ (omega arith) c.loop-token.invariant.2 (rw c.in_default.is at c.in_ok-token.ensures.next).1
 
-pub returns-in_err-letters : goal.returns-in_err-letters
-returns-in_err-letters c =
-    rw (exit_is c.from_residual.ensures.1) (first_refused c.args.line.now c.word.new.self.rest.now _ (omega arith) (rw c.new-reader.ensures.line at c.in_err-letters.ensures.first))
+pub returns-in_err-word : goal.returns-in_err-word
+returns-in_err-word c =
+    rw (exit_is c.from_residual.ensures.1) (first_refused c.args.line.now _ c.word.new.self.rest.now _ (omega arith) (rw c.new-reader.ensures.line at c.in_err-word.ensures.first))
 
 pub returns-in_err-token : goal.returns-in_err-token
 returns-in_err-token c =
