@@ -1,12 +1,10 @@
 -- The laws of the key by the square.
-use Rattle.std.specs.Prelude.{ℕ, ◌*◌, ◌<◌, ◌≤◌, List, [], ◌∷◌, length, sum}
+use Rattle.std.specs.Prelude.{ℕ, ◌*◌, ◌<◌, ◌≤◌, [], ◌∷◌}
 use Rattle.rule_tests.specs.Square.{by_square}
 use Rattle.share.specs.Keys.{NeverAboveLargest, NeverVanish}
-use Rattle.share.specs.declared.load.Load.{Load}
 use Rattle.std.proofs.Common.{arith, mul-le-mul_left}
 use Rattle.std.proofs.lemmas.Grind.{div_ceil_times}
 use Rattle.std.proofs.lemmas.List.Sums.{sum_by-cons, sum-map}
-use Rattle.std.specs.List.{AllByRecursion}
 use Rattle.std.specs.Int.{div_ceil}
 use Rattle.units.specs.declared.limits.TheConstants.{STATION_KW}
 
