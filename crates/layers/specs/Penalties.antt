@@ -1,11 +1,10 @@
 -- A penalty for one station that declared a wrong capacity.
 use Rattle.std.specs.Prelude.{ℕ, ◌*◌, ◌≤◌, ◌&&◌, Bool, List, filter_map, find, ℤ, pos, negsuc, Some, None, Option, IfSome, is_none, if◌then◌else◌, ◌==◌, nat_lt, slice_index_or}
-use Rattle.layers.specs.declared.penalty.TheConstants.{HIGHEST_BELOW, PENALTY_FACTOR}
 use Rattle.tariff.specs.Ranges.{in_range}
 use Rattle.tariff.specs.declared.query.Query.{Query}
 use Rattle.units.specs.declared.fault.Fault.TheVariants.{BadPenalty}
 use Rattle.units.specs.declared.fault.Fault.{Fault}
-use Rattle.units.specs.declared.limits.TheConstants.{HIGHEST_CEILING, STATION_KW}
+use Rattle.units.specs.declared.limits.TheConstants.{HIGHEST_CEILING, HIGHEST_UNDER_PENALTY, PENALTY_FACTOR, STATION_KW}
 
 -- The first capacity that no station has, in block order.
 abbrev pub first_one_above : List (Option ℕ) → Option ℕ
@@ -18,7 +17,7 @@ bad_capacity (Some kw) = Some (BadPenalty kw)
 -- The first reason against a penalty over a tariff with this ceiling.
 abbrev pub penalty_refused : ℕ → List (Option ℕ) → Option Fault
 penalty_refused ceiling due =
-    if nat_lt HIGHEST_BELOW ceiling then Some (BadPenalty ceiling) else bad_capacity (first_one_above due)
+    if nat_lt HIGHEST_UNDER_PENALTY ceiling then Some (BadPenalty ceiling) else bad_capacity (first_one_above due)
 
 -- Whether there is no reason against the penalty.
 abbrev pub applies : ℕ → List (Option ℕ) → Bool

@@ -1,7 +1,6 @@
 -- What a penalty keeps of the laws below it.
 use Rattle.std.specs.Prelude.{◌≡◌, ℕ, zero, suc, ◌*◌, ◌≤◌, ◌↔◌, Bool, true, false, cond, List, [], ◌∷◌, ℤ, pos, negsuc, Some, None, Option, IfSome, refl, is_none, ◌==◌, nat_lt, slice_index_or, unsigned_abs}
 use Rattle.layers.specs.Penalties.{AreCapacities, MayStand, applies, at_capacity, bad_capacity, corrected, due_capacity, first_one_above, multiplied, penal, penalty_refused, raised}
-use Rattle.layers.specs.declared.penalty.TheConstants.{HIGHEST_BELOW, PENALTY_FACTOR}
 use Rattle.std.proofs.Common.{ap, ◌∙◌, arith, mul_assoc}
 use Rattle.std.proofs.lemmas.Bool.{cond-false, cond_both, le-ltb, ltb-false}
 use Rattle.tariff.specs.Charges.{magnitude}
@@ -10,7 +9,7 @@ use Rattle.tariff.specs.RangesLemmas.{in_range-true}
 use Rattle.tariff.specs.declared.query.Query.{Query}
 use Rattle.units.specs.declared.fault.Fault.TheVariants.{BadPenalty}
 use Rattle.units.specs.declared.fault.Fault.{Fault}
-use Rattle.units.specs.declared.limits.TheConstants.{STATION_KW}
+use Rattle.units.specs.declared.limits.TheConstants.{HIGHEST_UNDER_PENALTY, PENALTY_FACTOR, STATION_KW}
 
 -- A capacity that a station can have, if there is one.
 abbrev IsLow : Option ℕ → Type 0
@@ -40,11 +39,11 @@ no_reason false f (Some kw) h = absurd cc
 
 -- there is no reason against a penalty exactly where it may stand
 pub penalty_refused-none : (ceiling : ℕ) (due : List (Option ℕ)) → (penalty_refused ceiling due ≡ None) ↔ MayStand ceiling due
-penalty_refused-none ceiling due = (stands, λ m. cond-false _ _ _ (le-ltb HIGHEST_BELOW ceiling (omega (arith, m.low))) ∙ ap bad_capacity (none_above due m.capacities)) where
+penalty_refused-none ceiling due = (stands, λ m. cond-false _ _ _ (le-ltb HIGHEST_UNDER_PENALTY ceiling (omega (arith, m.low))) ∙ ap bad_capacity (none_above due m.capacities)) where
   stands : penalty_refused ceiling due ≡ None → MayStand ceiling due
   stands h =
-      let none = no_reason (nat_lt HIGHEST_BELOW ceiling) (BadPenalty ceiling) (first_one_above due) h in
-      record { low = omega (arith, ltb-false HIGHEST_BELOW ceiling none.0); capacities = record { each = λ block. entry_low due block none.1 } }
+      let none = no_reason (nat_lt HIGHEST_UNDER_PENALTY ceiling) (BadPenalty ceiling) (first_one_above due) h in
+      record { low = omega (arith, ltb-false HIGHEST_UNDER_PENALTY ceiling none.0); capacities = record { each = λ block. entry_low due block none.1 } }
 
 none_is : (o : Option Fault) → is_none o ≡ true → o ≡ None
 none_is None h = refl

@@ -7,13 +7,7 @@ ghost use Rattle.std.proofs.Common.{rules};
 use tariff::query::Query;
 use tariff::tariff::{Tariff, sized_charge};
 use units::fault::Fault;
-use units::limits::{BLOCK_PAISE, BLOCKS, HIGHEST_CEILING, STATION_KW};
-
-/// What a penalty multiplies a charge by.
-const PENALTY_FACTOR: u32 = 3;
-
-/// The highest ceiling below a penalty: that of the penalty is still a ceiling.
-const HIGHEST_BELOW: u32 = HIGHEST_CEILING / PENALTY_FACTOR;
+use units::limits::{BLOCK_PAISE, BLOCKS, HIGHEST_UNDER_PENALTY, PENALTY_FACTOR, STATION_KW};
 
 /// For each block, the capacity that should have been declared, if another was: none that no station has.
 #[derive(Drop)]
@@ -79,7 +73,7 @@ impl<T: Tariff + Drop> Penalty<T> {
             (λ p. (p.below ≡ below) × (p.station ≡ station) × (p.due.blocks ≡ due)) result }
     {
         let ceiling = below.ceiling();
-        if ceiling > HIGHEST_BELOW {
+        if ceiling > HIGHEST_UNDER_PENALTY {
             return Err(Fault::BadPenalty {
                 value: u64::from(ceiling),
             });
@@ -97,7 +91,7 @@ impl<T: Tariff> Penalty<T> {
     fn applies(&self) -> bool
         ensures { result ≡ applies (T.Tariff.ceiling_of self.now.below) self.now.due.blocks }
     {
-        self.below.ceiling() <= HIGHEST_BELOW
+        self.below.ceiling() <= HIGHEST_UNDER_PENALTY
     }
 
     /// The capacity that should have been declared, if another was.

@@ -6,6 +6,7 @@ use Rattle.posting.specs.declared.place.Place.{Place}
 use Rattle.std.proofs.lemmas.Bool.{cases_eq, cond-false, cond-true}
 use Rattle.std.specs.Option.{option_map, option_or}
 use Rattle.std.specs.List.{find, range_with_len}
+use Rattle.units.specs.declared.limits.TheConstants.{BLOCKS}
 
 same_option : (r : Option Place) → r ≡ option_map (λ p. p) r
 same_option None = refl
@@ -13,14 +14,14 @@ same_option (Some p) = refl
 
 module _ (rs : List (Option ℕ)) (ex : Option Place) where
   -- one block of those that are left
-  pub from_more : (m : Members) (b : ℕ) → b < 96
-      → missing_from rs ex m b (96 - b) ≡ option_or (missing_in rs ex b m.first m.count) (missing_from rs ex m (b + 1) (96 - (b + 1)))
+  pub from_more : (m : Members) (b : ℕ) → b < BLOCKS
+      → missing_from rs ex m b (BLOCKS - b) ≡ option_or (missing_in rs ex b m.first m.count) (missing_from rs ex m (b + 1) (BLOCKS - (b + 1)))
   unfolding missing_from
-  from_more m b h = let left : 96 - b ≡ suc (96 - (b + 1)) = omega arith in ap (missing_from rs ex m b) left
+  from_more m b h = let left : BLOCKS - b ≡ suc (BLOCKS - (b + 1)) = omega arith in ap (missing_from rs ex m b) left
 
-  pub from_none : (m : Members) (b : ℕ) → 96 ≤ b → missing_from rs ex m b (96 - b) ≡ None
+  pub from_none : (m : Members) (b : ℕ) → BLOCKS ≤ b → missing_from rs ex m b (BLOCKS - b) ≡ None
   unfolding missing_from
-  from_none m b h = let left : 96 - b ≡ 0 = omega arith in ap (missing_from rs ex m b) left
+  from_none m b h = let left : BLOCKS - b ≡ 0 = omega arith in ap (missing_from rs ex m b) left
 
   -- one generator of those that are left
   in_more : (b g end : ℕ) → g < end → missing_in rs ex b g (end - g) ≡ cond (missing_at rs ex g b) (Some (record { generator = g; block = b })) (missing_in rs ex b (g + 1) (end - (g + 1)))
@@ -91,9 +92,9 @@ module _ (rs : List (Option ℕ)) (ex : Option Place) where
     blocks_is b zero = λ c p q. let none : ⊥ = omega arith in elim none [ ]
     blocks_is b (suc n) = blocks_step b n (missing_in rs ex b m.first m.count) (missing_from rs ex m (b + 1) n) (in_is b m.first m.count) (blocks_is (b + 1) n)
 
-    of_day : (o : Option Place) → InBlocks 0 96 o → FirstMissing rs ex m o
+    of_day : (o : Option Place) → InBlocks 0 BLOCKS o → FirstMissing rs ex m o
     of_day None whole = λ c g p. whole c (omega arith) (omega arith) g
     of_day (Some p) found = (omega (arith, found.1), found.2, found.3, found.4, λ c g q. found.5 c (omega arith) q g, found.6)
 
     pub first_is : (r : Option Place) → r ≡ first_missing_of rs ex m → FirstMissing rs ex m r
-    first_is r e = rw e (of_day (first_missing_of rs ex m) (blocks_is 0 96))
+    first_is r e = rw e (of_day (first_missing_of rs ex m) (blocks_is 0 BLOCKS))

@@ -13,6 +13,7 @@ use Rattle.share.specs.Shares.{shares, part}
 use Rattle.std.proofs.lemmas.List.{get_or_past, get_or-set_other, get_or-set_same, length-map, length-set, take_all}
 use Rattle.std.proofs.lemmas.Bool.{cases_eq, cases_lt}
 use Rattle.std.proofs.lemmas.Int.{ints}
+use Rattle.units.specs.declared.limits.TheConstants.{BLOCKS, BLOCK_PAISE}
 
 pub sum_to_none : (f : ℕ → ℤ) → sum_to f 0 ≡ pos 0
 unfolding sum_to
@@ -23,22 +24,22 @@ unfolding sum_to
 sum_to_more f n = rw add-one
 
 -- a running sum, one block more
-sum_more : (f : ℕ → ℤ) (b : ℕ) (old x new : ℤ) → old ≡ sum_to f b → nat_abs old ≤ b * 64000000000 → x ≡ f b → nat_abs x ≤ 64000000000 → new ≡ old +ℤ x
-    → (new ≡ sum_to f (b + 1)) × (nat_abs new ≤ (b + 1) * 64000000000)
+sum_more : (f : ℕ → ℤ) (b : ℕ) (old x new : ℤ) → old ≡ sum_to f b → nat_abs old ≤ b * BLOCK_PAISE → x ≡ f b → nat_abs x ≤ BLOCK_PAISE → new ≡ old +ℤ x
+    → (new ≡ sum_to f (b + 1)) × (nat_abs new ≤ (b + 1) * BLOCK_PAISE)
 sum_more f b old x new p small q least r = (omega (arith, ints, p, q, r, sum_to_more f b), omega (arith, ints))
 
 -- the same, of a sum that the code computes
-pub charge_more : (f : ℕ → ℤ) (b : ℕ) (old x : ℤ) → b < 96 → old ≡ sum_to f b → nat_abs old ≤ b * 64000000000 → x ≡ f b → nat_abs x ≤ 64000000000
-    → (to_z w64 (of_z w64 (old +ℤ to_z w64 (of_z w64 x))) ≡ sum_to f (b + 1)) × (nat_abs (to_z w64 (of_z w64 (old +ℤ to_z w64 (of_z w64 x)))) ≤ (b + 1) * 64000000000)
+pub charge_more : (f : ℕ → ℤ) (b : ℕ) (old x : ℤ) → b < BLOCKS → old ≡ sum_to f b → nat_abs old ≤ b * BLOCK_PAISE → x ≡ f b → nat_abs x ≤ BLOCK_PAISE
+    → (to_z w64 (of_z w64 (old +ℤ to_z w64 (of_z w64 x))) ≡ sum_to f (b + 1)) × (nat_abs (to_z w64 (of_z w64 (old +ℤ to_z w64 (of_z w64 x)))) ≤ (b + 1) * BLOCK_PAISE)
 charge_more f b old x h p small q least = sum_more f b old x _ p small q least (omega (arith, ints))
 
 -- the sums that a generator has of the blocks before, and of one block more
 pub shares_none : (f g : ℕ → ℤ) → no_amounts ≡ record { money = sum_to f 0; energy = sum_to g 0 }
 shares_none f g = same_amounts (sym (sum_to_none f)) (sym (sum_to_none g))
 
-pub shares_more : (f g : ℕ → ℤ) (b : ℕ) (old x new : Amounts) → old ≡ record { money = sum_to f b; energy = sum_to g b } → Within (b * 64000000000) old
-    → x ≡ record { money = f b; energy = g b } → Within 64000000000 x → new ≡ plus old x
-    → (new ≡ record { money = sum_to f (b + 1); energy = sum_to g (b + 1) }) × Within ((b + 1) * 64000000000) new
+pub shares_more : (f g : ℕ → ℤ) (b : ℕ) (old x new : Amounts) → old ≡ record { money = sum_to f b; energy = sum_to g b } → Within (b * BLOCK_PAISE) old
+    → x ≡ record { money = f b; energy = g b } → Within BLOCK_PAISE x → new ≡ plus old x
+    → (new ≡ record { money = sum_to f (b + 1); energy = sum_to g (b + 1) }) × Within ((b + 1) * BLOCK_PAISE) new
 shares_more f g b old x new p small q least r =
     let money = sum_more f b old.money x.money new.money (ap (λ a. a.money) p) small.0 (ap (λ a. a.money) q) least.0 (ap (λ a. a.money) r) in
     let energy = sum_more g b old.energy x.energy new.energy (ap (λ a. a.energy) p) small.1 (ap (λ a. a.energy) q) least.1 (ap (λ a. a.energy) r) in
@@ -145,7 +146,7 @@ added_all ms es old sums n p q a k =
     ]
 
 -- a block's shares are no further from zero than its figures
-pub split_within : (figures : Amounts) (ws : List ℕ) (k : ℕ) → Within 64000000000 figures → Within 64000000000 (amounts_at (shares figures.money ws) (shares figures.energy ws) k)
+pub split_within : (figures : Amounts) (ws : List ℕ) (k : ℕ) → Within BLOCK_PAISE figures → Within BLOCK_PAISE (amounts_at (shares figures.money ws) (shares figures.energy ws) k)
 split_within figures ws k small =
     (omega (arith, small.0, share_small figures.money ws k), omega (arith, small.1, share_small figures.energy ws k))
 

@@ -2,6 +2,7 @@
 use Rattle.std.specs.Prelude.{ℕ, ◌≤◌, List, ℤ, pos, ◌+ℤ◌, slice_index_or, unsigned_abs}
 use Rattle.posting.specs.declared.account.Account.{Account}
 use Rattle.share.specs.declared.amounts.Amounts.{Amounts}
+use Rattle.units.specs.declared.limits.TheConstants.{BLOCK_PAISE, STATION_KW}
 
 abbrev pub no_amounts : Amounts
 no_amounts = record { money = pos 0; energy = pos 0 }
@@ -19,7 +20,7 @@ Within limit a = (unsigned_abs a.money ≤ limit) × (unsigned_abs a.energy ≤ 
 
 -- how large a block's charge, in paise, and its deviation, in kW, are at most, either way
 abbrev pub BlockSized : Amounts → Type 0
-BlockSized figures = (unsigned_abs figures.money ≤ 64000000000) × (unsigned_abs figures.energy ≤ 6400000)
+BlockSized figures = (unsigned_abs figures.money ≤ BLOCK_PAISE) × (unsigned_abs figures.energy ≤ STATION_KW)
 
 -- the account of a generator to which no day is posted yet
 abbrev pub opened_account : ℕ → Account

@@ -15,6 +15,7 @@ use Rattle.share.specs.declared.key.Key as key
 use Rattle.tariff.specs.Charges.{deviation_of}
 use Rattle.tariff.specs.declared.query.Query.{Query}
 use Rattle.tariff.specs.declared.tariff.Tariff as tariff
+use Rattle.units.specs.declared.limits.TheConstants.{BLOCKS}
 
 -- what a station's day comes from: by which rules, from which pages, of which station and generators
 pub record StationDay : Type 0 where
@@ -79,11 +80,11 @@ sum_to f (suc n) = sum_to f n +ℤ f n
 
 -- the charges of the 96 blocks added
 abbrev pub standing_charges : StationDay → ℤ
-standing_charges d = sum_to (charge_at d) 96
+standing_charges d = sum_to (charge_at d) BLOCKS
 
 -- the deviations of the 96 blocks added
 abbrev pub day_deviation : StationDay → ℤ
-day_deviation d = sum_to (deviation_at d) 96
+day_deviation d = sum_to (deviation_at d) BLOCKS
 
 -- the shares that the k-th generator gets in the first n blocks, added
 abbrev pub shares_to : StationDay → ℕ → ℕ → Amounts
@@ -102,7 +103,7 @@ pub record SumsTo (d : StationDay) (n : ℕ) (sums : DaySums) : Type 0 where
 
 -- those of the day
 abbrev pub SumsOf : StationDay → DaySums → Type 0
-SumsOf d sums = SumsTo d 96 sums
+SumsOf d sums = SumsTo d BLOCKS sums
 
 -- what stands past the end of a page of accounts
 abbrev pub no_account : Account
@@ -114,7 +115,7 @@ with_sums sums k account = with_amounts (slice_index_or sums k no_amounts) accou
 
 -- the account of the k-th generator, once its shares of the 96 blocks are posted
 abbrev pub account_after : StationDay → ℕ → Account → Account
-account_after d k account = with_amounts (shares_to d k 96) account
+account_after d k account = with_amounts (shares_to d k BLOCKS) account
 
 -- whether the number n is one of `count` numbers from `first` on
 abbrev pub among : ℕ → ℕ → ℕ → Bool

@@ -1,6 +1,7 @@
 -- The numbers of a station's generators.
 use Rattle.std.specs.Prelude.{ℕ, ◌<◌, ◌≤◌}
+use Rattle.units.specs.declared.limits.TheConstants.{GENERATORS, MOST_BEFORE}
 
--- 1 to 32 generators from the number `first` on, which is 480 at most
+-- some generators from the number `first` on, as many as a station and a book may have
 abbrev pub Numbered : ℕ → ℕ → Type 0
-Numbered first count = (first ≤ 480) × (0 < count) × (count ≤ 32)
+Numbered first count = (first ≤ MOST_BEFORE) × (0 < count) × (count ≤ GENERATORS)

@@ -3,6 +3,7 @@ use Rattle.std.specs.Prelude.{◌≡◌, ℕ, zero, suc, ◌+◌, ◌*◌, ◌<�
 use Rattle.posting.specs.declared.members.Members.{Members}
 use Rattle.posting.specs.declared.place.Place.{Place}
 use Rattle.std.specs.Option.{option_or}
+use Rattle.units.specs.declared.limits.TheConstants.{BLOCKS}
 
 abbrev pub is_place : Option Place → ℕ → ℕ → Bool
 is_place None g b = false
@@ -10,7 +11,7 @@ is_place (Some p) g b = p.generator == g && p.block == b
 
 -- whether the reading of the generator g in the block b is needed and is not on the page
 abbrev pub missing_at : List (Option ℕ) → Option Place → ℕ → ℕ → Bool
-missing_at readings except g b = not (is_some (slice_index_or readings (96 * g + b) None)) && not (is_place except g b)
+missing_at readings except g b = not (is_some (slice_index_or readings (BLOCKS * g + b) None)) && not (is_place except g b)
 
 -- of n generators from g on, the first that lacks a reading in the block b
 abbrev pub missing_in : List (Option ℕ) → Option Place → ℕ → ℕ → ℕ → Option Place
@@ -24,7 +25,7 @@ missing_from readings except m b zero = None
 missing_from readings except m b (suc n) = option_or (missing_in readings except b m.first m.count) (missing_from readings except m (b + 1) n)
 
 abbrev pub first_missing_of : List (Option ℕ) → Option Place → Members → Option Place
-first_missing_of readings except m = missing_from readings except m 0 96
+first_missing_of readings except m = missing_from readings except m 0 BLOCKS
 
 -- no reading of the station is missing in the blocks before b
 abbrev pub ReadBefore : List (Option ℕ) → Option Place → Members → ℕ → Type 0
@@ -33,8 +34,8 @@ ReadBefore readings except m b =
 
 -- a place where a reading is missing and before which none is, or none at all
 abbrev pub FirstMissing : List (Option ℕ) → Option Place → Members → Option Place → Type 0
-FirstMissing readings except m None = ReadBefore readings except m 96
+FirstMissing readings except m None = ReadBefore readings except m BLOCKS
 FirstMissing readings except m (Some p) =
-    (p.block < 96) × (m.first ≤ p.generator) × (p.generator < m.first + m.count)
+    (p.block < BLOCKS) × (m.first ≤ p.generator) × (p.generator < m.first + m.count)
     × (missing_at readings except p.generator p.block ≡ true) × ReadBefore readings except m p.block
     × ((g : ℕ) → m.first ≤ g → g < p.generator → missing_at readings except g p.block ≡ false)

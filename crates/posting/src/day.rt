@@ -13,7 +13,7 @@ use arrayvec::ArrayVec;
 use share::key::Key;
 use share::weights::Weights;
 use tariff::tariff::Tariff;
-use units::limits::{BLOCKS, GENERATORS};
+use units::limits::{BLOCK_PAISE, BLOCKS, DAY_PAISE, GENERATORS};
 
 /// A station's day on the pages, with the tariff that charges it and the key that splits it.
 #[derive(Drop)]
@@ -35,9 +35,9 @@ pub struct DaySums {
 
 /// Adds a share to a generator's sums.
 fn add_to(sums: &mut [Amounts; GENERATORS], k: usize, share: Amounts)
-    requires inside { k < 32 }
-    requires room { Within 9000000000000 (slice_index_or sums.old k no_amounts) }
-    requires small { Within 64000000000 share }
+    requires inside { k < GENERATORS }
+    requires room { Within DAY_PAISE (slice_index_or sums.old k no_amounts) }
+    requires small { Within BLOCK_PAISE share }
     ensures { sums.new ≡ slice_set sums.old k (plus (slice_index_or sums.old k no_amounts) share) }
 {
     add(&mut sums[k], share);
@@ -45,8 +45,8 @@ fn add_to(sums: &mut [Amounts; GENERATORS], k: usize, share: Amounts)
 
 /// Adds what each generator gets of a block's figures to its shares of the blocks before.
 fn add_shares(sums: &mut [Amounts; GENERATORS], figures: Amounts, weights: &Weights)
-    requires room { (k : ℕ) → Within 9000000000000 (slice_index_or sums.old k no_amounts) }
-    requires small { Within 64000000000 figures }
+    requires room { (k : ℕ) → Within DAY_PAISE (slice_index_or sums.old k no_amounts) }
+    requires small { Within BLOCK_PAISE figures }
     ensures { (k : ℕ) → slice_index_or sums.new k no_amounts ≡ plus (slice_index_or sums.old k no_amounts) (amounts_at (shares figures.money (held weights.now)) (shares figures.energy (held weights.now)) k) }
 {
     let mut money = weights.splitter(figures.money);
@@ -93,9 +93,9 @@ impl DaySums {
 impl<T: Tariff, K: Key> Day<'_, T, K> {
     /// The charges of so many blocks from the first on added, and each generator's shares of them and of the deviations.
     fn sums_to(&self, blocks: u8) -> DaySums
-        requires { blocks ≤ 96 }
+        requires { blocks ≤ BLOCKS }
         ensures sums { SumsTo (the_day T.Tariff K.Key self.now) blocks result }
-        ensures most { unsigned_abs result.charges ≤ blocks * 64000000000 }
+        ensures most { unsigned_abs result.charges ≤ blocks * BLOCK_PAISE }
     {
         let mut charges = 0;
         let mut each = [Amounts::default(); GENERATORS];
@@ -115,7 +115,7 @@ impl<T: Tariff, K: Key> Day<'_, T, K> {
     /// The charges of the 96 blocks added, and each generator's shares of them and of the deviations, which add up to them.
     pub fn sums(&self) -> DaySums
         ensures sums { SumsOf (the_day T.Tariff K.Key self.now) result }
-        ensures most { unsigned_abs result.charges ≤ 6144000000000 }
+        ensures most { unsigned_abs result.charges ≤ DAY_PAISE }
     {
         self.sums_to(BLOCKS as u8)
     }

@@ -5,11 +5,11 @@ ghost use Rattle.posting.specs.Missing.{first_missing_of, FirstMissing, missing_
 use crate::members::Members;
 use crate::pages::entry_or;
 use crate::place::Place;
-use units::limits::BLOCKS;
+use units::limits::{ALL_GENERATORS, BLOCKS};
 
 /// Whether a reading is needed and is not on the page.
 fn is_missing(readings: &[Option<u32>], except: Option<Place>, place: Place) -> bool
-    requires generator { place.generator < 512 }
+    requires generator { place.generator < ALL_GENERATORS }
     requires block { place.block < 256 }
     ensures { result ≡ missing_at readings.now except place.generator place.block }
 {

@@ -3,6 +3,10 @@ ghost use Rattle.units.specs.Faults.{page_number, refusal_of, refusal_text};
 ghost use Rattle.std.specs.Prelude.{◌≡◌, Some};
 ghost use Rattle.units.specs.declared.fault.Fault.TheVariants.{NoMemory};
 
+use crate::limits::{
+    GENERATORS, HIGHEST_RATE, HIGHEST_UNDER_PENALTY, LEAST_INSTALLED, MOST_AMOUNT, MOST_CASH,
+    MOST_INSTALLED, STATION_KW, STATIONS,
+};
 use crate::station::Phase;
 use std::alloc::AllocError;
 use std::fmt;
@@ -33,25 +37,25 @@ pub enum Fault {
     #[error("there is no memory left")]
     NoMemory,
     /// Not 1 to 16 stations, or not as many kinds as counts.
-    #[error("{kinds} kinds and {counts} counts are not those of 1 to 16 stations")]
+    #[error("{kinds} kinds and {counts} counts are not those of 1 to {most} stations", most = STATIONS)]
     StationCount { kinds: u64, counts: u64 },
     /// A kind above 1, or not 1 to 32 generators.
-    #[error("station {station} is of no kind, or has not 1 to 32 generators")]
+    #[error("station {station} is of no kind, or has not 1 to {most} generators", most = GENERATORS)]
     BadStation { station: u64 },
     /// Not as many installed powers as the counts add up to.
     #[error("{given} installed powers are given for {needed} generators")]
     InstalledCount { given: u64, needed: u64 },
     /// An installed power outside 1,000 to 200,000 kW.
-    #[error("generator {generator} has {kw} kW installed, which is not 1000 to 200000")]
+    #[error("generator {generator} has {kw} kW installed, which is not {least} to {most}", least = LEAST_INSTALLED, most = MOST_INSTALLED)]
     InstalledRange { generator: u64, kw: u64 },
     /// A page is too short.
     #[error("the page {page:?} is too short: {needed} entries are needed")]
     ShortPage { page: Page, needed: u64 },
     /// A rate above 4,000 paise per kWh.
-    #[error("the rate {rate} is above 4000 paise per kWh")]
+    #[error("the rate {rate} is above {most} paise per kWh", most = HIGHEST_RATE)]
     HighRate { rate: u64 },
     /// A penalty over a ceiling above 3,333, or with a capacity above 6,400,000 kW.
-    #[error("no penalty may stand on {value}: a ceiling is at most 3333, a capacity at most 6400000 kW")]
+    #[error("no penalty may stand on {value}: a ceiling is at most {ceiling}, a capacity at most {capacity} kW", ceiling = HIGHEST_UNDER_PENALTY, capacity = STATION_KW)]
     BadPenalty { value: u64 },
     /// The page for an answer or a line is too short.
     #[error("a page of {length} bytes is too short for the text")]
@@ -99,10 +103,10 @@ pub enum Fault {
     #[error("generator {generator} has no reading in block {block}")]
     MissingReading { generator: u64, block: u64 },
     /// An amount of 0, or above 10^12 paise.
-    #[error("station {station} asks for {amount} paise, which is not 1 to 1000000000000")]
+    #[error("station {station} asks for {amount} paise, which is not 1 to {most}", most = MOST_AMOUNT)]
     BadAmount { station: u64, amount: u64 },
     /// The cash would pass 10^15 paise.
-    #[error("the pool's {cash} paise and what station {station} pays would pass 1000000000000000")]
+    #[error("the pool's {cash} paise and what station {station} pays would pass {most}", most = MOST_CASH)]
     FullCash { station: u64, cash: u64 },
     /// A draw above minus the due.
     #[error("station {station} may draw {available} paise and no more")]

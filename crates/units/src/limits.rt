@@ -13,6 +13,9 @@ pub const GENERATORS: usize = 32;
 /// Generators of a book, at most.
 pub const ALL_GENERATORS: usize = STATIONS * GENERATORS;
 
+/// Generators of a book before those of a station, at most.
+pub const MOST_BEFORE: usize = ALL_GENERATORS - GENERATORS;
+
 /// The largest capacity or reading of a generator.
 pub const GENERATOR_KW: u32 = 200_000;
 
@@ -30,6 +33,12 @@ pub const HIGHEST_RATE: u32 = 4_000;
 
 /// The highest ceiling of a tariff, in paise for a kW of deviation in a block.
 pub const HIGHEST_CEILING: u32 = 10_000;
+
+/// What a penalty multiplies a charge by.
+pub const PENALTY_FACTOR: u32 = 3;
+
+/// The highest ceiling of a tariff over which a penalty may stand: the penalty's is still one.
+pub const HIGHEST_UNDER_PENALTY: u32 = HIGHEST_CEILING / PENALTY_FACTOR;
 
 /// The most paise that a station is charged, or earns, for a block.
 pub const BLOCK_PAISE: u64 = HIGHEST_CEILING as u64 * STATION_KW as u64;

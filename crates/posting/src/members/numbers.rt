@@ -4,17 +4,14 @@ ghost use Rattle.posting.specs.Members.{Numbered};
 
 use crate::members::Members;
 use std::ops::Range;
-use units::limits::{GENERATORS, STATIONS};
-
-/// The number of the first generator of the last station, at most.
-const LAST_FIRST: usize = (STATIONS - 1) * GENERATORS;
+use units::limits::{GENERATORS, MOST_BEFORE};
 
 impl Members {
-    /// `count` generators from number `first` on: 1 to 32 of them, the first numbered 480 at most.
+    /// `count` generators from number `first` on: 1 to 32 of them, the first numbered 480 at most. `None` for others.
     pub fn of(first: usize, count: usize) -> Option<Members>
         ensures { MatchOption result (Numbered first count → ⊥) (λ m. (m.first ≡ first) × (m.count ≡ count)) }
     {
-        if first <= LAST_FIRST && (1..=GENERATORS).contains(&count) {
+        if first <= MOST_BEFORE && (1..=GENERATORS).contains(&count) {
             Some(Members { first, count })
         } else {
             None
