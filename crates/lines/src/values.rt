@@ -1,5 +1,5 @@
 //! What the arguments of a form say.
-ghost use Rattle.std.specs.Prelude.{◌≡◌, ◌≤◌, [], map, length};
+ghost use Rattle.std.specs.Prelude.{◌≡◌, ◌≤◌, [], map, length, MatchOption};
 ghost use Rattle.std.specs.List.{All};
 ghost use Rattle.units.specs.Calls.{list_in, number_in, opening_said, padded, value_of, with_values};
 ghost use Rattle.units.specs.declared.head.Head.TheVariants.{Open};
@@ -42,6 +42,14 @@ fn is_list(part: Part) -> bool
     matches!(part, Part::List(_))
 }
 
+/// The place of the first list, if there is one.
+fn place_of_list(args: &[Part]) -> Option<usize>
+    ensures { MatchOption result (first_list (values_of args.now) ≡ [])
+        (λ place. first_list (values_of args.now) ≡ list_in (said_at args.now place)) }
+{
+    args.iter().position(|part| is_list(*part))
+}
+
 impl Parts<'_> {
     /// The number at this place: 0 where there is none.
     fn number(&self, place: usize) -> u64
@@ -67,7 +75,7 @@ impl Parts<'_> {
     fn first_list<'r>(&self, room: &'r mut Room) -> &'r [u64]
         ensures { result.now ≡ first_list (values_of self.now.args.items) }
     {
-        match self.args.iter().position(|part| is_list(*part)) {
+        match place_of_list(&self.args) {
             Some(place) => self.list(place, room),
             None => &[],
         }
