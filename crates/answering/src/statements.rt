@@ -14,7 +14,7 @@ use spell::figures::{GeneratorLine, StationLine};
 use spell::statement::{STATEMENT_PAGE, Statement};
 use tariff::tariff::Tariff;
 use units::fault::Fault;
-use units::limits::GENERATORS;
+use units::limits::{GENERATORS, MOST_BEFORE};
 
 /// What the line of a generator says.
 fn generator_line(generator: u64, account: &Account) -> GeneratorLine
@@ -29,8 +29,8 @@ fn generator_line(generator: u64, account: &Account) -> GeneratorLine
 
 /// What the lines of the generators say: the accounts, numbered from `first` on.
 fn generator_lines(first: usize, accounts: &[Account]) -> ArrayVec<GeneratorLine, GENERATORS>
-    requires low { first ≤ 480 }
-    requires few { length accounts.now ≤ 32 }
+    requires low { first ≤ MOST_BEFORE }
+    requires few { length accounts.now ≤ GENERATORS }
     ensures { result.items ≡ lines_from first accounts.now }
 {
     let mut lines = ArrayVec::new();
@@ -42,8 +42,8 @@ fn generator_lines(first: usize, accounts: &[Account]) -> ArrayVec<GeneratorLine
 
 /// Writes the figures.
 fn write(figures: &Figures, output: &mut [u8]) -> Result<usize, Fault>
-    requires low { figures.now.first ≤ 480 }
-    requires few { length figures.now.accounts.now ≤ 32 }
+    requires low { figures.now.first ≤ MOST_BEFORE }
+    requires few { length figures.now.accounts.now ≤ GENERATORS }
     ensures { wrote result output.new ≡ writing_figures figures.now output.old }
 {
     let generators = generator_lines(figures.first, figures.accounts);

@@ -10,6 +10,7 @@ use Rattle.quoting.specs.declared.entry.Entry.{Entry}
 use Rattle.quoting.specs.declared.entry.TariffName.{TariffName}
 use Rattle.share.specs.declared.load.Load.{Load}
 use Rattle.units.specs.Refusals.{when}
+use Rattle.units.specs.declared.limits.TheConstants.{GENERATORS, STATION_KW}
 
 -- What the lines so far have given.
 pub record Given : Type 0 where
@@ -21,12 +22,18 @@ pub record Given : Type 0 where
 abbrev pub nothing : Given
 nothing = record { tariff = None; key = None; schedule = None; loads = [] }
 
--- The tariff comes first, then the key, then the schedule, each once; then the generators, 32 at most.
+-- The tariff comes first, then the key, then the schedule, each once; then the generators, as many as a station may have.
 abbrev pub tests : Given → Entry → List (Option Cause)
 tests s (Tariff name) = when ((is_some s.tariff || is_some s.key) || is_some s.schedule) LateTariff ∷ rate_tests name
 tests s (Key key) = when (is_some s.key || is_some s.schedule) LateKey ∷ []
-tests s (Schedule kw) = when (is_some s.schedule) SecondSchedule ∷ when (nat_lt 6400000 kw) (Above quantity.Schedule 6400000) ∷ []
-tests s (Generator load) = when (not (is_some s.schedule)) EarlyGenerator ∷ when (length s.loads == 32) ManyGenerators ∷ load_tests load
+tests s (Schedule kw) =
+    when (is_some s.schedule) SecondSchedule
+    ∷ when (nat_lt STATION_KW kw) (Above quantity.Schedule STATION_KW)
+    ∷ []
+tests s (Generator load) =
+    when (not (is_some s.schedule)) EarlyGenerator
+    ∷ when (length s.loads == GENERATORS) ManyGenerators
+    ∷ load_tests load
 
 -- What an accepted line adds.
 abbrev pub taken : Given → Entry → Given

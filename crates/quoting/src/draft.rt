@@ -3,6 +3,7 @@ mod adds;
 
 ghost use Rattle.std.specs.Prelude.{◌≤◌};
 ghost use Rattle.std.specs.Option.{unwrap_or};
+ghost use Rattle.units.specs.declared.limits.TheConstants.{STATION_KW};
 
 use crate::choice::{KeyChoice, TariffChoice};
 use arrayvec::ArrayVec;
@@ -16,5 +17,5 @@ pub struct Draft {
     key: Option<KeyChoice>,
     schedule: Option<u32>,
     generators: ArrayVec<Generator, GENERATORS>,
-    ghost scheduled: { unwrap_or schedule 0 ≤ 6400000 },
+    ghost scheduled: { unwrap_or schedule 0 ≤ STATION_KW },
 }

@@ -11,35 +11,36 @@ use Rattle.posting.specs.Sheets.{installed_of}
 use Rattle.settle_bench.proofs.Settling.{still_sixteen, taken}
 use Rattle.settle_bench.specs.Full.{Sixteen}
 use Rattle.std.proofs.lemmas.List.{get_or-map, length-map}
+use Rattle.units.specs.declared.limits.TheConstants.{GENERATORS, STATIONS}
 
 -- accounts as a day begins have the powers that they were opened with
 pub powers_opened : (powers : List ℕ) → installed_of (map opened_account powers) ≡ powers
 powers_opened [] = refl
 powers_opened (kw ∷ powers) = ap (λ rest. kw ∷ rest) (powers_opened powers)
 
-length_opened : (n from : ℕ) → length (opened_stations from (replicate n 0) (replicate n 32)) ≡ n
+length_opened : (n from : ℕ) → length (opened_stations from (replicate n 0) (replicate n GENERATORS)) ≡ n
 length_opened zero from = refl
-length_opened (suc n) from = ap suc (length_opened n (from + 32))
+length_opened (suc n) from = ap suc (length_opened n (from + GENERATORS))
 
 -- the station t of those that are opened
-opened_at : (n from t : ℕ) (d : View) → t < n → get_or (opened_stations from (replicate n 0) (replicate n 32)) t d ≡ station_opened (from + 32 * t) 0 32
+opened_at : (n from t : ℕ) (d : View) → t < n → get_or (opened_stations from (replicate n 0) (replicate n GENERATORS)) t d ≡ station_opened (from + GENERATORS * t) 0 GENERATORS
 opened_at zero from t d h = let none : ⊥ = omega arith in elim none [ ]
-opened_at (suc n) from zero d h = ap (λ k. station_opened k 0 32) (omega arith)
-opened_at (suc n) from (suc t) d h = opened_at n (from + 32) t d (omega arith) ∙ ap (λ k. station_opened k 0 32) (omega arith)
+opened_at (suc n) from zero d h = ap (λ k. station_opened k 0 GENERATORS) (omega arith)
+opened_at (suc n) from (suc t) d h = opened_at n (from + GENERATORS) t d (omega arith) ∙ ap (λ k. station_opened k 0 GENERATORS) (omega arith)
 
-pub opened_sixteen : (ss : List Station) (kinds counts : List ℕ) → kinds ≡ replicate 16 0 → counts ≡ replicate 16 32 → map view_of ss ≡ opened_stations 0 kinds counts → Sixteen ss
+pub opened_sixteen : (ss : List Station) (kinds counts : List ℕ) → kinds ≡ replicate STATIONS 0 → counts ≡ replicate STATIONS GENERATORS → map view_of ss ≡ opened_stations 0 kinds counts → Sixteen ss
 opened_sixteen ss kinds counts k c opened =
-    let views : map view_of ss ≡ opened_stations 0 (replicate 16 0) (replicate 16 32) = opened ∙ ap (λ (xs : List ℕ). opened_stations 0 xs counts) k ∙ ap (λ (xs : List ℕ). opened_stations 0 (replicate 16 0) xs) c in
-    let many : length ss ≡ 16 = sym (length-map ss view_of) ∙ ap (λ (vs : List View). length vs) views ∙ length_opened 16 0 in
-    let at : (t : ℕ) → t < 16 → view_of (get_or ss t nobody) ≡ station_opened (0 + 32 * t) 0 32 = λ t h.
-    sym (get_or-map view_of ss t nobody (view_of nobody) (omega (arith, many))) ∙ ap (λ (vs : List View). get_or vs t (view_of nobody)) views ∙ opened_at 16 0 t (view_of nobody) h in
+    let views : map view_of ss ≡ opened_stations 0 (replicate STATIONS 0) (replicate STATIONS GENERATORS) = opened ∙ ap (λ (xs : List ℕ). opened_stations 0 xs counts) k ∙ ap (λ (xs : List ℕ). opened_stations 0 (replicate STATIONS 0) xs) c in
+    let many : length ss ≡ STATIONS = sym (length-map ss view_of) ∙ ap (λ (vs : List View). length vs) views ∙ length_opened STATIONS 0 in
+    let at : (t : ℕ) → t < STATIONS → view_of (get_or ss t nobody) ≡ station_opened (0 + GENERATORS * t) 0 GENERATORS = λ t h.
+    sym (get_or-map view_of ss t nobody (view_of nobody) (omega (arith, many))) ∙ ap (λ (vs : List View). get_or vs t (view_of nobody)) views ∙ opened_at STATIONS 0 t (view_of nobody) h in
     record {
       many = many;
       placed = λ t h. record { first = ap (λ (v : View). v.first) (at t h) ∙ omega arith; count = ap (λ (v : View). v.count) (at t h) };
       even = λ t h. ap (λ (v : View). v.net) (at t h);
     }
 
-pub through : (t : ℕ) (z filed issued closed : State) (r q p : Answer) → t < 16
+pub through : (t : ℕ) (z filed issued closed : State) (r q p : Answer) → t < STATIONS
     → Does (filing t 0 95 0 z) r filed → r ≡ Ok tt
     → Does (issuing t filed) q issued → q ≡ Ok tt
     → Does (closing t issued) p closed → p ≡ Ok tt

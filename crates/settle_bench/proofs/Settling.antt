@@ -18,6 +18,7 @@ use Rattle.std.proofs.lemmas.List.{get_or-set_other, get_or-set_same, length-set
 use Rattle.std.proofs.lemmas.Bool.{cases_eq, cases_lt}
 use Rattle.units.specs.declared.fault.Fault.{Fault}
 use lib.IntN.{+ℤ_idr}
+use Rattle.units.specs.declared.limits.TheConstants.{GENERATORS, STATIONS}
 
 -- an accepted call leaves what it computes
 pub taken : (c : Option Fault) (z e after : State) (r : Answer) → Does (unless c z e) r after → r ≡ Ok tt → after ≡ e
@@ -25,7 +26,7 @@ taken None z e after r does ok = does.after
 taken (Some f) z e after r does ok = let z : ◌≡◌ {A = ℕ} 0 1 = cc in absurd (omega arith)
 
 -- a station changed, but for its generators and its payments
-pub still_sixteen : (ss : List Station) (t : ℕ) (x : Station) → t < 16 → x.plant.members ≡ (get_or ss t nobody).plant.members → x.balance.net ≡ (get_or ss t nobody).balance.net → Sixteen ss → Sixteen (set ss t x)
+pub still_sixteen : (ss : List Station) (t : ℕ) (x : Station) → t < STATIONS → x.plant.members ≡ (get_or ss t nobody).plant.members → x.balance.net ≡ (get_or ss t nobody).balance.net → Sixteen ss → Sixteen (set ss t x)
 still_sixteen ss t x h members net old =
     let within : t < length ss = rw old.many h in
     let same = get_or-set_same ss t x nobody within in
@@ -43,7 +44,7 @@ still_sixteen ss t x h members net old =
     }
 
 -- the station t is posted
-module _ (s : Sheet) (z : State) (t : ℕ) (h : t < 16) (full : Full s z) (by : z.rules ≡ bench_rules) where
+module _ (s : Sheet) (z : State) (t : ℕ) (h : t < STATIONS) (full : Full s z) (by : z.rules ≡ bench_rules) where
   abbrev x : Station
   x = on_stage (moved Settle) (station_at z t)
 
@@ -77,20 +78,20 @@ module _ (s : Sheet) (z : State) (t : ℕ) (h : t < 16) (full : Full s z) (by : 
   earlier u l old =
       let ne : u ≢ t = λ q. omega arith in
       let same = sym (get_or-set_other z.stations t u done_station nobody ne) in
-      let kept : (k : ℕ) → k < 32 → get_or e.accounts (32 * u + k) no_account ≡ get_or z.accounts (32 * u + k) no_account = λ k b.
-      changed_out x.plant.members.first x.plant.members.count after_posting z.accounts (32 * u + k) no_account (omega (arith, full.accounts))
+      let kept : (k : ℕ) → k < GENERATORS → get_or e.accounts (GENERATORS * u + k) no_account ≡ get_or z.accounts (GENERATORS * u + k) no_account = λ k b.
+      changed_out x.plant.members.first x.plant.members.count after_posting z.accounts (GENERATORS * u + k) no_account (omega (arith, full.accounts))
       (inl (omega (arith, (full.stations.placed t h).first))) in
       record {
         charges = subst (λ (y : Station). y.balance.charges ≡ standing_charges (day_by s u y.plant.members)) same old.charges;
-        money = λ k b. ap (λ (a : Account). a.money) (kept k b) ∙ subst (λ (y : Station). (get_or z.accounts (32 * u + k) no_account).money ≡ money_of s u y.plant.members k) same (old.money k b);
-        energy = λ k b. ap (λ (a : Account). a.energy) (kept k b) ∙ subst (λ (y : Station). (get_or z.accounts (32 * u + k) no_account).energy ≡ energy_of s u y.plant.members k) same (old.energy k b);
+        money = λ k b. ap (λ (a : Account). a.money) (kept k b) ∙ subst (λ (y : Station). (get_or z.accounts (GENERATORS * u + k) no_account).money ≡ money_of s u y.plant.members k) same (old.money k b);
+        energy = λ k b. ap (λ (a : Account). a.energy) (kept k b) ∙ subst (λ (y : Station). (get_or z.accounts (GENERATORS * u + k) no_account).energy ≡ energy_of s u y.plant.members k) same (old.energy k b);
       }
 
   itself : Done s e t
   itself =
       let place = full.stations.placed t h in
       let m = x.plant.members in
-      let shared : (k : ℕ) → k < 32 → get_or e.accounts (32 * t + k) no_account ≡ account_after (day_by s t m) k (get_or z.accounts (32 * t + k) no_account) = λ k b.
+      let shared : (k : ℕ) → k < GENERATORS → get_or e.accounts (GENERATORS * t + k) no_account ≡ account_after (day_by s t m) k (get_or z.accounts (GENERATORS * t + k) no_account) = λ k b.
       subst (λ (n : ℕ). get_or e.accounts (n + k) no_account ≡ account_after (day_by s t m) k (get_or z.accounts (n + k) no_account)) place.first
       (subst (λ (y : StationDay). get_or e.accounts (m.first + k) no_account ≡ account_after y k (get_or z.accounts (m.first + k) no_account)) day_is
       (changed_in m.first m.count after_posting z.accounts k no_account (omega (arith, place.count)) (omega (arith, place.first, full.accounts)))) in
@@ -100,7 +101,7 @@ module _ (s : Sheet) (z : State) (t : ℕ) (h : t < 16) (full : Full s z) (by : 
         energy = λ k b. ap (λ (a : Account). a.energy) (shared k b) ∙ ap (λ (y : Station). energy_of s t y.plant.members k) (sym here);
       }
 
-pub settle_more : (s : Sheet) (z after : State) (r : Answer) (t : ℕ) → t < 16 → z.rules ≡ bench_rules → DoneTo t s z → Does (settling t z) r after → r ≡ Ok tt → DoneTo (t + 1) s after
+pub settle_more : (s : Sheet) (z after : State) (r : Answer) (t : ℕ) → t < STATIONS → z.rules ≡ bench_rules → DoneTo t s z → Does (settling t z) r after → r ≡ Ok tt → DoneTo (t + 1) s after
 settle_more s z after r t h by old does ok =
     subst (λ (y : State). DoneTo (t + 1) s y) (sym (taken _ z (e s z t h old.full by) after r does ok)) (record {
       full = still_full s z t h old.full by;
@@ -114,7 +115,7 @@ pub none_done : (s : Sheet) (z : State) → Full s z → DoneTo 0 s z
 none_done s z full = record { full = full; done = λ t l. let none : ⊥ = omega arith in elim none [ ] }
 
 -- a settled book is reported
-pub all_settled : (s : Sheet) (z : State) (dues : List ℤ) (shares : List Shares) → DoneTo 16 s z → Reports z dues shares → AllSettled s dues shares
+pub all_settled : (s : Sheet) (z : State) (dues : List ℤ) (shares : List Shares) → DoneTo STATIONS s z → Reports z dues shares → AllSettled s dues shares
 all_settled s z dues shares to reports t h =
     let x = station_at z t in
     let done = to.done t h in
@@ -122,5 +123,5 @@ all_settled s z dues shares to reports t h =
       members = x.plant.members;
       placed = to.full.stations.placed t h;
       due = λ l. reports.due t l ∙ ap (λ (n : ℤ). x.balance.charges +ℤ n) (to.full.stations.even t h) ∙ +ℤ_idr x.balance.charges ∙ done.charges;
-      share = λ k b l. reports.share (32 * t + k) l ∙ same_shares (done.money k b) (done.energy k b);
+      share = λ k b l. reports.share (GENERATORS * t + k) l ∙ same_shares (done.money k b) (done.energy k b);
     }

@@ -7,6 +7,7 @@ use Rattle.posting.specs.Sheets.{Sheet}
 use Rattle.posting.specs.declared.members.Members.{Members}
 use Rattle.settle_bench.specs.Full.{Placed, day_by, energy_of, money_of}
 use Rattle.settle_bench.specs.declared.shares.Shares.{Shares}
+use Rattle.units.specs.declared.limits.TheConstants.{GENERATORS, STATIONS}
 
 abbrev pub nothing : Shares
 nothing = record { money = pos 0; energy = pos 0 }
@@ -16,12 +17,12 @@ pub record Reports (z : State) (dues : List ℤ) (shares : List Shares) : Type 0
   pub due : (t : ℕ) → t < length dues → slice_index_or dues t (pos 0) ≡ due_of (station_at z t).balance
   pub share : (g : ℕ) → g < length shares → slice_index_or shares g nothing ≡ record { money = (get_or z.accounts g no_account).money; energy = (get_or z.accounts g no_account).energy }
 
--- the station t owes the charges of its 96 blocks, and each of its generators has its shares of them
+-- the station t owes the charges of its blocks, and each of its generators has its shares of them
 pub record StationSettled (s : Sheet) (dues : List ℤ) (shares : List Shares) (t : ℕ) : Type 0 where
   pub members : Members
   pub placed : Placed t members
   pub due : t < length dues → slice_index_or dues t (pos 0) ≡ standing_charges (day_by s t members)
-  pub share : (k : ℕ) → k < 32 → 32 * t + k < length shares → slice_index_or shares (32 * t + k) nothing ≡ record { money = money_of s t members k; energy = energy_of s t members k }
+  pub share : (k : ℕ) → k < GENERATORS → GENERATORS * t + k < length shares → slice_index_or shares (GENERATORS * t + k) nothing ≡ record { money = money_of s t members k; energy = energy_of s t members k }
 
 abbrev pub AllSettled : Sheet → List ℤ → List Shares → Type 0
-AllSettled s dues shares = (t : ℕ) → t < 16 → StationSettled s dues shares t
+AllSettled s dues shares = (t : ℕ) → t < STATIONS → StationSettled s dues shares t

@@ -23,10 +23,7 @@ pub use shares::Shares;
 use std::alloc::{AllocError, Global};
 use tariff::banded::Banded;
 use units::fault::Fault;
-use units::limits::{GENERATORS, STATIONS};
-
-/// The generators of a full book.
-const ALL_GENERATORS: usize = STATIONS * GENERATORS;
+use units::limits::{ALL_GENERATORS, BLOCKS, STATIONS};
 
 /// A day's numbers, as the caller lends them: 96 schedules a station, 96 capacities and readings a generator.
 #[derive(Clone, Copy)]
@@ -44,7 +41,7 @@ fn closed_book(installed: &[u64], pages: &mut Pages) -> Result<Book<Banded, Unit
     let opening = full_opening(installed);
     let mut book = Book::open(Banded::From10, UnitsKey, &opening, pages)?;
     for t in 0..STATIONS as u64 {
-        book.file(pages, t, 0, 95, 0)?;
+        book.file(pages, t, 0, BLOCKS as u64 - 1, 0)?;
         book.issue(pages, t)?;
         book.close(pages, t)?;
     }
@@ -87,7 +84,7 @@ fn day_pages(heap: Global, day: &Day) -> Result<Pages, AllocError>
 fn settle_all(book: &mut Book<Banded, UnitsKey>, pages: &mut Pages) -> Result<(), Fault>
     requires tariff { book.old.tariff ≡ From10 }
     requires full { Full (sheet_of pages.old) (state book.old pages.old) }
-    ensures { OnOk result (DoneTo 16 (sheet_of pages.old) (state book.new pages.new)) }
+    ensures { OnOk result (DoneTo STATIONS (sheet_of pages.old) (state book.new pages.new)) }
 {
     for t in 0..STATIONS as u64 {
         book.settle(pages, t)?;
@@ -121,7 +118,7 @@ fn one_book(
     pages: &mut Pages,
     settle: bool,
 ) -> Result<Book<Banded, UnitsKey>, Fault>
-    requires { length pages.old.accounts.items ≡ 512 }
+    requires { length pages.old.accounts.items ≡ ALL_GENERATORS }
     ensures { IfOk result (λ b. Leaves settle (sheet_of pages.old) (state b pages.new)) }
 {
     let mut book = closed_book(installed, blank)?;
@@ -139,7 +136,7 @@ fn last_book(
     books: usize,
     settle: bool,
 ) -> Result<Book<Banded, UnitsKey>, Failure>
-    requires { length pages.old.accounts.items ≡ 512 }
+    requires { length pages.old.accounts.items ≡ ALL_GENERATORS }
     ensures { IfOk result (λ b. Leaves settle (sheet_of pages.old) (state b pages.new)) }
 {
     let mut blank = Pages::new(heap, STATIONS as u8, ALL_GENERATORS as u16)?;

@@ -35,6 +35,7 @@ use Rattle.tariff.specs.declared.tariff.Tariff as tariff
 use Rattle.units.specs.Refusals.{first, when}
 use Rattle.units.specs.declared.call.Opening.{Opening}
 use Rattle.units.specs.declared.fault.Fault.{Fault}
+use Rattle.units.specs.declared.limits.TheConstants.{STATIONS}
 
 pub on_ok : {A E : Type 0} (r : Result A E) (P Q : Type 0) → (P → Q) → OnOk r P → OnOk r Q
 on_ok (Ok x) P Q f p = f p
@@ -97,7 +98,7 @@ station_there t s e = leb-false (length s.stations) t (passed (leb (length s.sta
     passed false f e = refl
 
 -- where there are n stations, and a statement of each, the statements of all n were written
-all_stated : (code n : ℕ) (s : State) (a b : Option (List ℕ)) → length s.stations ≡ n → n ≤ 16 → ((t : ℕ) → t < n → presence t s ≡ None) → StatedAll code s a b
+all_stated : (code n : ℕ) (s : State) (a b : Option (List ℕ)) → length s.stations ≡ n → n ≤ STATIONS → ((t : ℕ) → t < n → presence t s ≡ None) → StatedAll code s a b
     → Appends a b (statements_to code s n)
 all_stated code n s a b many few stated all =
     let low : all.stations ≤ n = ⊎_elim
@@ -106,7 +107,7 @@ all_stated code n s a b many few stated all =
     (cases_lt n all.stations) in
     let high : n ≤ all.stations = ⊎_elim
     (λ (h : all.stations < n). ⊎_elim
-    (λ (last : all.stations ≡ 16). absurd (omega arith))
+    (λ (last : all.stations ≡ STATIONS). absurd (omega arith))
     (λ last. absurd (never (presence all.stations s) (stated all.stations h) last))
     all.last)
     (λ (h : n ≤ all.stations). h)
@@ -145,8 +146,8 @@ stated_until code t s out out' f a b size e so = record {
   written = so.written;
 }
 
-pub stated_all : (code : ℕ) (s : State) (a b : Option (List ℕ)) → StatedBelow code s 16 a b → StatedAll code s a b
-stated_all code s a b so = record { stations = 16; each = so.each; last = inl refl; written = so.written }
+pub stated_all : (code : ℕ) (s : State) (a b : Option (List ℕ)) → StatedBelow code s STATIONS a b → StatedAll code s a b
+stated_all code s a b so = record { stations = STATIONS; each = so.each; last = inl refl; written = so.written }
 
 plain_more : (lines : List (List ℕ)) (line : List ℕ) → All Plain lines → Plain line → All Plain (lines ++ line ∷ [])
 plain_more lines line p q = All-append Plain lines (line ∷ []) p (All-cons Plain line [] q (All-nil Plain))

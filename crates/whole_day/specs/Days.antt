@@ -21,6 +21,7 @@ use Rattle.std.specs.List.{flat_map}
 use Rattle.tariff.specs.declared.tariff.Tariff as tariff
 use Rattle.units.specs.declared.call.Opening.{Opening}
 use Rattle.units.specs.declared.fault.Fault.{Fault}
+use Rattle.units.specs.declared.limits.TheConstants.{STATIONS}
 
 -- lines, each with its line feed
 abbrev pub fed_lines : List (List ℕ) → List ℕ
@@ -45,11 +46,11 @@ statements_to code s zero = []
 statements_to code s (suc n) =
     statements_to code s n ++ statement_text (station_line code n s) (generator_lines n s)
 
--- Statements were written of the first stations: of all before the first that has none, or of sixteen.
+-- Statements were written of the first stations: of all before the first that has none, or of as many as a book may have.
 pub record StatedAll (code : ℕ) (s : State) (before after : Option (List ℕ)) : Type 0 where
   pub stations : ℕ
   pub each : (t : ℕ) → t < stations → presence t s ≡ None
-  pub last : (stations ≡ 16) ⊎ IsSome (presence stations s)
+  pub last : (stations ≡ STATIONS) ⊎ IsSome (presence stations s)
   pub written : Appends before after (statements_to code s stations)
 
 -- the line opened a book or not, and the answer was written

@@ -26,7 +26,13 @@ impl<T: Tariff, K: Key> Book<T, K> {
         ensures tariff { self.new.tariff ≡ self.old.tariff }
         ensures key { self.new.key ≡ self.old.key }
     {
-        let charges = post(&self.tariff, &self.key, t as u8, station.plant.members, pages);
+        let charges = post(
+            &self.tariff,
+            &self.key,
+            t as u8,
+            station.plant.members,
+            pages,
+        );
         station.balance.settle(charges);
         self.stations[t] = station;
     }

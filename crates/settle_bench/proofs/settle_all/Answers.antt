@@ -9,6 +9,7 @@ use Rattle.settle_bench.specs.Full.{DoneTo}
 use Rattle.share.specs.Keys.{by_units}
 use Rattle.tariff.specs.Bands.{banded_charge}
 use Rattle.tariff.specs.declared.banded.Banded.{Banded}
+use Rattle.units.specs.declared.limits.TheConstants.{STATIONS}
 
 -- the rules of a book under these bands
 abbrev under : Banded → Rules
@@ -30,5 +31,5 @@ loop-t-preserved c =
 
 pub returns : goal.returns
 returns c =
-    let all : c.loop-t.t ≡ 16 = omega arith in
+    let all : c.loop-t.t ≡ STATIONS = omega arith in
     subst (λ (n : ℕ). DoneTo n (sheet_of c.args.pages.now) (state c.loop-t.book c.loop-t.pages)) all c.loop-t.invariant.1

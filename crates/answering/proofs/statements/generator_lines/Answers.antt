@@ -2,11 +2,12 @@ use Rattle.std.proofs.Common.{◌<◌, length, take, ap, ◌∙◌, arith, rules
 use Rattle.answering.proofs.Texts.{length-lines, lines_more}
 use Rattle.answering.proofs.statements.generator_lines.Goals as goal
 use Rattle.posting.specs.Days.{no_account}
+use Rattle.units.specs.declared.limits.TheConstants.{GENERATORS}
 
 pub push-requires : goal.push-requires
 push-requires c =
     let n = ap length c.loop-k.invariant ∙ length-lines c.args.first (take c.loop-k.k c.args.accounts.now) ∙ length-take c.loop-k.k c.args.accounts.now in
-    let room : length c.loop-k.lines.items < 32 = omega (arith, n) in
+    let room : length c.loop-k.lines.items < GENERATORS = omega (arith, n) in
     search rules
 
 pub loop-k-preserved : goal.loop-k-preserved
