@@ -91,12 +91,14 @@ impl<T: Tariff, K: Key> Day<'_, T, K> {
     }
 
     /// The charge and the deviation of the station in a block, and the weights that split them.
-    /// Its generators are put into `all`, so that one list can serve all blocks.
-    pub(crate) fn weighed(
+    /// Its generators are put into `all` and the weights into `room`, so that two lists can serve
+    /// all blocks.
+    pub(crate) fn weighed<'r>(
         &self,
         block: u8,
         all: &mut ArrayVec<Generator, GENERATORS>,
-    ) -> (Amounts, Weights)
+        room: &'r mut ArrayVec<u64, GENERATORS>,
+    ) -> (Amounts, Weights<'r>)
         ensures figures { result.0 ≡ figures_at (the_day T.Tariff K.Key self.now) block }
         ensures weights { held result.1 ≡ weights_at (the_day T.Tariff K.Key self.now) block }
         ensures sized { BlockSized result.0 }
@@ -104,7 +106,7 @@ impl<T: Tariff, K: Key> Day<'_, T, K> {
         self.gather(block, all);
         let generators = Generators::of(all.as_slice()).unwrap();
         let figures = self.figures_of(block, &generators);
-        (figures, Weights::of(self.key, &generators))
+        (figures, Weights::of(self.key, &generators, room))
     }
 
     /// The charge and the deviation of the station in a block, and what each generator gets of them.
@@ -116,7 +118,8 @@ impl<T: Tariff, K: Key> Day<'_, T, K> {
         ensures sized { BlockSized result.figures }
     {
         let mut all = ArrayVec::new();
-        let (figures, weights) = self.weighed(block, &mut all);
+        let mut room = ArrayVec::new();
+        let (figures, weights) = self.weighed(block, &mut all, &mut room);
         BlockShares::new(figures, &weights)
     }
 }

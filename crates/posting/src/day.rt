@@ -100,8 +100,9 @@ impl<T: Tariff, K: Key> Day<'_, T, K> {
         let mut charges = 0;
         let mut each = [Amounts::default(); GENERATORS];
         let mut all = ArrayVec::new();
+        let mut room = ArrayVec::new();
         for block in 0..blocks {
-            let (figures, weights) = self.weighed(block, &mut all);
+            let (figures, weights) = self.weighed(block, &mut all, &mut room);
             charges += figures.money;
             add_shares(&mut each, figures, &weights);
         }

@@ -55,7 +55,8 @@ pub fn quote_for<T: Tariff, K: Key>(
         money: tariff.charge(query),
         energy: query.deviation(),
     };
-    let each = Weights::of(key, generators).split_amounts(owed);
+    let mut room = ArrayVec::new();
+    let each = Weights::of(key, generators, &mut room).split_amounts(owed);
     Quotation { query, owed, each }
 }
 

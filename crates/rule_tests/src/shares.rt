@@ -50,7 +50,8 @@ fn by_square(rt: HostRuntime) -> Result<(), Fail> {
 
 #[test]
 fn given_weights(rt: HostRuntime) -> Result<(), Fail> {
-    let weights = Weights::given(&[1 << 63, 0, 1 << 62]).ok_or("three weights")?;
+    let each = [1 << 63, 0, 1 << 62];
+    let weights = Weights::given(&each).ok_or("three weights")?;
     let shares = weights.split(i64::MIN);
     let first = -6_148_914_691_236_517_205;
     assert_eq!(rt; shares.as_slice(), [first, 0, i64::MIN - first].as_slice());

@@ -3,4 +3,4 @@ use Rattle.std.specs.Prelude.{ℕ, List}
 use Rattle.share.specs.declared.weights.Weights.{Weights}
 
 abbrev pub held : Weights → List ℕ
-held w = w.each.items
+held w = w.each.now

@@ -21,27 +21,25 @@ fn weight_of<K: Key>(key: &K, generator: &Generator, station: &Load) -> u32
     key.weight(&generator.load(), station)
 }
 
-impl Weights {
+impl<'a> Weights<'a> {
     /// These weights, in their order (docs/RULES.md, "Keys and shares").
     /// `None` if there are more than 32, or if they add up to nothing or to 2^64 or more.
-    pub fn given(each: &[u64]) -> Option<Weights>
+    pub fn given(each: &'a [u64]) -> Option<Weights<'a>>
         ensures { MatchOption result (AreWeights each.now → ⊥)
             (λ w. AreWeights each.now × (held w ≡ each.now)) }
     {
         if each.len() > GENERATORS {
             return None;
         }
-        let mut kept = ArrayVec::new();
         let mut total: u64 = 0;
         for &weight in each {
-            kept.push(weight);
             total = total.checked_add(weight)?;
         }
         if total == 0 {
             return None;
         }
         Some(Weights {
-            each: kept,
+            each,
             total,
             inverse: inverse_of(total),
         })
@@ -49,20 +47,25 @@ impl Weights {
 
     /// The weight that the key gives each generator, in their order: together at most 6,400,000, the
     /// most kW that a station has (docs/RULES.md, "Keys and shares").
-    pub fn of<K: Key>(key: &K, generators: &Generators) -> Weights
+    /// They are put into `room`, in the place of what it held, so that one list can serve many times.
+    pub fn of<K: Key>(
+        key: &K,
+        generators: &Generators,
+        room: &'a mut ArrayVec<u64, GENERATORS>,
+    ) -> Weights<'a>
         ensures value { held result ≡ weights K.Key.weighs (loads generators.now.each.now) }
         ensures small { sum (held result) ≤ STATION_KW }
     {
         let station = generators.load();
-        let mut each = ArrayVec::new();
+        room.clear();
         let mut total = 0;
         for generator in generators.each() {
             let weight = u64::from(weight_of(key, generator, &station));
-            each.push(weight);
+            room.push(weight);
             total += weight;
         }
         Weights {
-            each,
+            each: room.as_slice(),
             total,
             inverse: inverse_of(total),
         }

@@ -14,13 +14,13 @@ use crate::weights::Weights;
 use arrayvec::ArrayVec;
 use units::limits::GENERATORS;
 
-impl Weights {
+impl<'a> Weights<'a> {
     /// The weights, in their order.
-    pub fn each(&self) -> &[u64]
+    pub fn each(&self) -> &'a [u64]
         ensures value { result.now ≡ held self.now }
         ensures few { length result.now ≤ GENERATORS }
     {
-        self.each.as_slice()
+        self.each
     }
 
     /// An amount to be split over the weights one by one, with no list of the shares.
@@ -79,5 +79,6 @@ pub fn split_by<K: Key>(key: &K, generators: &Generators, amount: i64) -> ArrayV
         ≡ shares amount (weights K.Key.weighs (loads generators.now.each.now)) }
     ensures fair { Fair amount (weights K.Key.weighs (loads generators.now.each.now)) }
 {
-    Weights::of(key, generators).split(amount)
+    let mut room = ArrayVec::new();
+    Weights::of(key, generators, &mut room).split(amount)
 }

@@ -8,7 +8,7 @@ use Rattle.std.proofs.lemmas.List.{length-map}
 
 pub returns-clause-count : goal.returns-clause-count
 returns-clause-count g c =
-    c.new.ensures.count ∙ ap length c.weighed-weights.ensures.weights ∙ length-map _ _ ∙ length_loads (sheet_of c.args.self.now.pages.now) c.args.block _ _
+    c.new.ensures.count ∙ ap length c.weighed.ensures.weights ∙ length-map _ _ ∙ length_loads (sheet_of c.args.self.now.pages.now) c.args.block _ _
 
 pub returns-clause-fair : goal.returns-clause-fair
 returns-clause-fair g c =

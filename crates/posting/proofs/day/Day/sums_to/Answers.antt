@@ -15,9 +15,9 @@ loop-block-init g c =
 
 pub loop-block-preserved : goal.loop-block-preserved
 loop-block-preserved g c =
-    let b = c.weighed-weights.ensures in
+    let b = c.weighed.ensures in
     let inv = c.loop-block.invariant in
-    let figures = c.weighed-weights.result.0 in
+    let figures = c.weighed.result.0 in
     let charges = charge_more _ c.loop-block.block _ _ (omega arith) inv.charges_are inv.most (ap (λ f. f.money) b.figures) b.sized.0 in
     let read = λ (k : ℕ). same_shares k b.figures b.weights in
     let small = λ (k : ℕ). split_within figures _ k (b.sized.0, omega (arith, b.sized.1)) in
