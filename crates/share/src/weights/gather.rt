@@ -3,7 +3,7 @@ ghost use Rattle.share.specs.Held.{held};
 ghost use Rattle.share.specs.Keys.{weights};
 ghost use Rattle.share.specs.Loads.{loads};
 ghost use Rattle.share.specs.Shares.{AreWeights};
-ghost use Rattle.std.specs.Prelude.{◌≡◌, ◌≤◌, MatchOption, sum};
+ghost use Rattle.std.specs.Prelude.{◌≡◌, ◌^◌, ◌≤◌, MatchOption, sum};
 
 use crate::generator::Generator;
 use crate::generators::Generators;
@@ -21,6 +21,17 @@ fn weight_of<K: Key>(key: &K, generator: &Generator, station: &Load) -> u32
     key.weight(&generator.load(), station)
 }
 
+/// The weights added. `None` if they come to 2^64 or more.
+fn total_of(each: &[u64]) -> Option<u64>
+    ensures { MatchOption result (2 ^ 64 ≤ sum each.now) (λ total. total ≡ sum each.now) }
+{
+    let mut total: u64 = 0;
+    for &weight in each {
+        total = total.checked_add(weight)?;
+    }
+    Some(total)
+}
+
 impl<'a> Weights<'a> {
     /// These weights, in their order (docs/RULES.md, "Keys and shares").
     /// `None` if there are more than 32, or if they add up to nothing or to 2^64 or more.
@@ -31,10 +42,7 @@ impl<'a> Weights<'a> {
         if each.len() > GENERATORS {
             return None;
         }
-        let mut total: u64 = 0;
-        for &weight in each {
-            total = total.checked_add(weight)?;
-        }
+        let total = total_of(each)?;
         if total == 0 {
             return None;
         }
