@@ -12,7 +12,6 @@ use book::{Book, Pages};
 use share::key::Key;
 use spell::answers::ANSWER_PAGE;
 use spell::statement::STATEMENT_PAGE;
-use std::alloc::Global;
 use std::io;
 use std::io::{ErrorKind, Read, Write};
 use tariff::tariff::Tariff;
@@ -163,7 +162,6 @@ fn day<T: Tariff + Drop, K: Key + Drop, R: Read, W: Write>(
 /// What is held back is written out before more is read. A refused opening ends the day.
 #[tactic(auto, using(crate::proofs::Inputs::none_ahead))]
 pub fn run<T: Tariff + Drop, K: Key + Drop, R: Read, W: Write>(
-    alloc: Global,
     tariff: T,
     key: K,
     pages: &mut Pages,
@@ -173,6 +171,6 @@ pub fn run<T: Tariff + Drop, K: Key + Drop, R: Read, W: Write>(
     ensures { OnOk result (Day T.Tariff K.Key tariff key (R.remaining reader.old)
         pages.old pages.new (W.contents writer.old) (W.contents writer.new)) }
 {
-    let mut ahead = Ahead::new(alloc)?;
+    let mut ahead = Ahead::new();
     day(tariff, key, pages, &mut ahead, reader, writer)
 }
