@@ -17,7 +17,7 @@ use Rattle.spell.specs.declared.answers.TheConstants.{ANSWER_PAGE}
 use Rattle.spell.specs.declared.statement.TheConstants.{STATEMENT_PAGE}
 use Rattle.law.specs.Data.{layout_of}
 use Rattle.law.specs.Figures.{stations_in}
-use Rattle.whole_day.specs.Days.{AnsweredAll, AnsweredBy, AnsweredRest, AnsweredSome, AnsweredUnwritten, AreLines, BeginsWith, Day, DayRun, NextAll, OpenedBy, OpenedUnwritten, StatedAll, Stopped, all_fed, answers_text, entry_of, fed_lines, followed, last_unfed, no_book, no_line, ran, ran_part, statements_to, unopened, whole}
+use Rattle.whole_day.specs.Days.{AnsweredAll, AnsweredBy, AnsweredRest, AnsweredSome, AnsweredUnwritten, AreLines, BeginsWith, Day, DayRun, NextAll, OpenedBy, StatedAll, Stopped, all_fed, answers_text, entry_of, fed_lines, followed, last_unfed, no_book, no_line, ran, ran_part, statements_to, unopened, whole}
 use Rattle.answering.specs.Entries.{Came, Entry, Next, text}
 use Rattle.whole_day.specs.Inputs.{NextLine, Plain, cut}
 use Rattle.answering.specs.Lines.{Begins, Lined, OpensAs, StartWritten, Started, Starts, begun, kept, told, unstarted}
@@ -263,9 +263,6 @@ module _ {T K : Type 0} {prices : tariff.Ghosts T} {keys : key.Ghosts K} where
   pub opened_by : (t : T) (k : K) (line out out' : List ℕ) (p p' : Pages) (n : ℕ) (book : Option (Book T K prices keys)) (before after : Option (List ℕ))
       → Started t k line out p p' out' (Ok (n, book)) → Appends before after (take n out') → OpenedBy t k line p p' before after book
   opened_by t k line out out' p p' n book before after started appended = opened_with t k line out out' p p' n book before after started.written started.starts appended
-
-  pub opened_unwritten : (t : T) (k : K) (line out out' : List ℕ) (p p' : Pages) (n : ℕ) (book : Option (Book T K prices keys)) → Started t k line out p p' out' (Ok (n, book)) → OpenedUnwritten prices keys t k line p p'
-  opened_unwritten t k line out out' p p' n book started = (book, opened_by t k line out out' p p' n book None None started tt)
 
   pub answered_unwritten : (line out out' : List ℕ) (b b' : Book T K prices keys) (p p' : Pages) (n : ℕ) → length out ≡ ANSWER_PAGE → Lined line out b p b' p' out' (Ok n) → AnsweredUnwritten line b p b' p'
   answered_unwritten line out out' b b' p p' n size lined = answered_by line out out' b b' p p' n None None size lined tt

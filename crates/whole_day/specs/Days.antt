@@ -1,4 +1,5 @@
--- A whole day: what is written for an input, and what it comes to where the reader or the writer fails.
+-- A whole day: what is written for an input, and what it comes to where the reader or the writer
+-- fails.
 use Rattle.std.specs.Prelude.{◌≡◌, ◌≢◌, ◌⊎◌, ◌<◌, ℕ, zero, suc, Bool, true, false, List, [], ◌∷◌, ◌++◌, All, map, None, Ok, Option, Result, IfSome, IsSome}
 use Rattle.book.specs.Calls.{Answer}
 use Rattle.book.specs.States.{State, presence, state}

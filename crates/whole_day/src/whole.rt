@@ -173,7 +173,8 @@ fn day<T: Tariff + Drop, K: Key + Drop, R: Read, W: Write>(
 /// Opens a book by the first line, makes each other line's call, writes each answer, and at the end each station's statement.
 /// What is held back is written out before more is read. A refused opening ends the day.
 /// Where the reader or the writer fails, the pages are as some lines at the front of the input leave them;
-/// if none of them opened a book, no page changed. The law holds of every run (docs/RULES.md, "The law over every run").
+/// if none of them opened a book, no page changed.
+/// The law holds of every run (docs/RULES.md, "The law over every run").
 #[tactic(auto, using(crate::proofs::Inputs::none_ahead))]
 pub fn run<T: Tariff + Drop, K: Key + Drop, R: Read, W: Write>(
     tariff: T,
