@@ -30,7 +30,7 @@ const WHOLE: [(&[u8], &[u8]); 5] = [
 
 fn run_day<R: Read, W: Write>(alloc: Global, reader: &mut R, writer: &mut W) -> io::Result<()> {
     let mut pages = Pages::new(alloc, 1, 2)?;
-    run(alloc, Banded::From10, UnitsKey, &mut pages, reader, writer)
+    run(Banded::From10, UnitsKey, &mut pages, reader, writer)
 }
 
 /// The first line opens the book, an empty line is a line, a last one needs no line feed, and statements follow.

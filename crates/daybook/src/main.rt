@@ -13,7 +13,6 @@ fn main(rt: HostRuntime) -> Result<()> {
     let mut reader = rt.stdin();
     let mut writer = BufWriter::new(rt.alloc(), rt.stdout())?;
     run(
-        rt.alloc(),
         Banded::From10,
         UnitsKey,
         &mut pages,

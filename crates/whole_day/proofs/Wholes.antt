@@ -1,5 +1,5 @@
 -- What a whole day writes.
-use Rattle.std.proofs.Common.{◌<◌, ◌≤◌, ◌≡◌, ◌≢◌, inl, inr, leb, ⊎_elim, ℕ, suc, ◌+◌, Bool, true, false, List, [], ◌∷◌, ◌++◌, length, map, take, drop, None, Some, Ok, Err, IfSome, IsSome, IsTrue, ◌↔◌, OnOk, Option, Result, sym, refl, ap, ◌∙◌, subst, arith, add-one, append_assoc, append-nil}
+use Rattle.std.proofs.Common.{◌<◌, ◌≤◌, ◌≡◌, ◌≢◌, inl, inr, leb, ⊎_elim, ℕ, suc, ◌+◌, Bool, true, false, List, [], ◌∷◌, ◌++◌, length, map, take, drop, None, Some, Ok, Err, IfSome, IsSome, IsTrue, ◌↔◌, OnErr, OnOk, Option, Result, sym, refl, ap, ◌∙◌, subst, arith, add-one, append_assoc, append-nil}
 use borrow.Author.Count.{below_more, below_none}
 use Rattle.std.proofs.lemmas.List.{take_all, take-append-le, map-append}
 use Rattle.std.proofs.lemmas.List.Elements.{All-append, All-cons, All-nil}
@@ -17,10 +17,10 @@ use Rattle.spell.specs.declared.answers.TheConstants.{ANSWER_PAGE}
 use Rattle.spell.specs.declared.statement.TheConstants.{STATEMENT_PAGE}
 use Rattle.law.specs.Data.{layout_of}
 use Rattle.law.specs.Figures.{stations_in}
-use Rattle.whole_day.specs.Days.{AnsweredAll, AnsweredBy, AnsweredRest, AreLines, Day, NextAll, OpenedBy, StatedAll, all_fed, answers_text, entry_of, fed_lines, last_unfed, no_line, ran, statements_to, unopened}
+use Rattle.whole_day.specs.Days.{AnsweredAll, AnsweredBy, AnsweredRest, AnsweredSome, AnsweredUnwritten, AreLines, BeginsWith, Day, DayRun, NextAll, OpenedBy, StatedAll, Stopped, all_fed, answers_text, entry_of, fed_lines, followed, last_unfed, no_book, no_line, ran, ran_part, statements_to, unopened, whole}
 use Rattle.answering.specs.Entries.{Came, Entry, Next, text}
 use Rattle.whole_day.specs.Inputs.{NextLine, Plain, cut}
-use Rattle.answering.specs.Lines.{Lined, StartWritten, Started, Starts, begun, kept, told, unstarted}
+use Rattle.answering.specs.Lines.{Begins, Lined, OpensAs, StartWritten, Started, Starts, begun, kept, told, unstarted}
 use Rattle.answering.specs.Statements.{generator_lines, station_line, telling, untold}
 use Rattle.units.specs.Calls.{opens}
 use Rattle.grammar.specs.Reads.{Accepted}
@@ -40,6 +40,10 @@ use Rattle.units.specs.declared.limits.TheConstants.{STATIONS}
 pub on_ok : {A E : Type 0} (r : Result A E) (P Q : Type 0) → (P → Q) → OnOk r P → OnOk r Q
 on_ok (Ok x) P Q f p = f p
 on_ok (Err e) P Q f p = tt
+
+pub on_err : {A E : Type 0} (r : Result A E) (P : Type 0) → P → OnErr r P
+on_err (Ok x) P p = tt
+on_err (Err e) P p = p
 
 pub kept_appends : (a b c : Option (List ℕ)) (bs : List ℕ) → Keeps a b → Appends b c bs → Appends a c bs
 kept_appends None b c bs k p = tt
@@ -192,6 +196,38 @@ are_more line input lines (last_unfed front last is some e) =
 three : (a b c d e : Option (List ℕ)) (xs ys zs : List ℕ) → Keeps a b → Appends b c xs → Appends c d ys → Appends d e zs → Appends a e (xs ++ (ys ++ zs))
 three a b c d e xs ys zs k p q r = kept_appends a b e (xs ++ (ys ++ zs)) k (Appends-trans b c e xs (ys ++ zs) p (Appends-trans c d e ys zs q r))
 
+-- lines at the front of an input
+
+begins_fed : (known new : Option (List ℕ)) (lines : List (List ℕ)) → Consumes known new (fed_lines lines) → IfSome known (λ input. BeginsWith input lines)
+begins_fed None new lines c = tt
+begins_fed (Some xs) None lines c = absurd c
+begins_fed (Some xs) (Some ys) lines c = followed ys c
+
+begins_all : (known : Option (List ℕ)) (input : List ℕ) (lines : List (List ℕ)) → IfSome known (λ bytes. bytes ≡ input) → AreLines input lines → IfSome known (λ i. BeginsWith i lines)
+begins_all None input lines e are = tt
+begins_all (Some xs) input lines e are = whole (subst (λ i. AreLines i lines) (sym e) are)
+
+front_more : (line input : List ℕ) (lines : List (List ℕ)) → BeginsWith input lines → BeginsWith ((line ++ 10 ∷ []) ++ input) (line ∷ lines)
+front_more line input lines (followed rest e) =
+    followed rest (ap (λ l. (line ++ 10 ∷ []) ++ l) e ∙ sym (append_assoc (line ++ 10 ∷ []) (fed_lines lines) rest))
+front_more line input lines (whole are) = whole (are_more line input lines are)
+
+begins_more : (known new : Option (List ℕ)) (line : List ℕ) (lines : List (List ℕ)) → Consumes known new (line ++ 10 ∷ []) → IfSome new (λ i. BeginsWith i lines) → IfSome known (λ i. BeginsWith i (line ∷ lines))
+begins_more None new line lines c more = tt
+begins_more (Some xs) None line lines c more = absurd c
+begins_more (Some xs) (Some ys) line lines c more = subst (λ i. BeginsWith i (line ∷ lines)) (sym c) (front_more line ys lines more)
+
+begins_none : (known : Option (List ℕ)) → IfSome known (λ i. BeginsWith i [])
+begins_none None = tt
+begins_none (Some xs) = followed xs refl
+
+begins_one : (known new : Option (List ℕ)) (line : List ℕ) (fed : Bool) (next : NextLine known new line fed) → ((fed ≡ false) × (line ≡ []) → ⊥) → IfSome known (λ i. BeginsWith i (next.bytes ∷ []))
+begins_one known new line true next there = begins_more known new next.bytes [] next.taken (begins_none new)
+begins_one known new line false next there =
+    begins_all known next.bytes (next.bytes ∷ [])
+    (consumed_all known new next.bytes (subst (Consumes known new) (append-nil next.bytes) next.taken) (next.last refl))
+    (last_unfed [] next.bytes refl (none_cut next.bytes line next.kept (λ empty. there (refl, empty))) refl)
+
 -- a test that fails, of which this is what it tests
 pub not_end : {P : Type 0} (r : Bool) → r ≡ false → (IsTrue r ↔ P) → P → ⊥
 not_end r fails is holds = let passes : IsTrue r = is.1 holds in cc
@@ -227,6 +263,9 @@ module _ {T K : Type 0} {prices : tariff.Ghosts T} {keys : key.Ghosts K} where
   pub opened_by : (t : T) (k : K) (line out out' : List ℕ) (p p' : Pages) (n : ℕ) (book : Option (Book T K prices keys)) (before after : Option (List ℕ))
       → Started t k line out p p' out' (Ok (n, book)) → Appends before after (take n out') → OpenedBy t k line p p' before after book
   opened_by t k line out out' p p' n book before after started appended = opened_with t k line out out' p p' n book before after started.written started.starts appended
+
+  pub answered_unwritten : (line out out' : List ℕ) (b b' : Book T K prices keys) (p p' : Pages) (n : ℕ) → length out ≡ ANSWER_PAGE → Lined line out b p b' p' out' (Ok n) → AnsweredUnwritten line b p b' p'
+  answered_unwritten line out out' b b' p p' n size lined = answered_by line out out' b b' p p' n None None size lined tt
 
   -- so far
   pub record SoFar (old new : Option (List ℕ)) (b : Book T K prices keys) (p : Pages) (b' : Book T K prices keys) (p' : Pages) (before after : Option (List ℕ)) : Type 0 where
@@ -305,6 +344,28 @@ module _ {T K : Type 0} {prices : tariff.Ghosts T} {keys : key.Ghosts K} where
       keeps_nothing (Some xs) None k = absurd k
       keeps_nothing (Some xs) (Some ys) k = k ∙ sym (append-nil xs)
 
+  -- where a reader or a writer fails: nothing is known of what was written
+
+  unwritten : (old new : Option (List ℕ)) (b m : Book T K prices keys) (p l : Pages) (before after : Option (List ℕ)) → SoFar old new b p m l before after → SoFar old new b p m l None None
+  unwritten old new b m p l before after so = record { lines = so.lines; answers = so.answers; plain = so.plain; taken = so.taken; next = so.next; written = tt }
+
+  pub some_so_far : (old new : Option (List ℕ)) (b m : Book T K prices keys) (p l : Pages) (before after : Option (List ℕ)) → SoFar old new b p m l before after → AnsweredSome old b p m l
+  some_so_far old new b m p l before after so = record { lines = so.lines; answers = so.answers; plain = so.plain; begins = begins_fed old new so.lines so.taken; next = so.next }
+
+  some_of_all : (known : Option (List ℕ)) (b m : Book T K prices keys) (p l : Pages) (before after : Option (List ℕ)) → AnsweredAll known b p m l before after → AnsweredSome known b p m l
+  some_of_all known b m p l before after all = record { lines = all.lines; answers = all.answers; plain = all.plain; begins = begins_all known all.input all.lines all.read all.are; next = all.next }
+
+  -- with one line more, which may be the last
+  pub some_more : (old new newer : Option (List ℕ)) (line : List ℕ) (fed : Bool) (b m e : Book T K prices keys) (p l r : Pages) (before held : Option (List ℕ))
+      → SoFar old new b p m l before held → NextLine new newer line fed → ((fed ≡ false) × (line ≡ []) → ⊥) → AnsweredUnwritten line m l e r → AnsweredSome old b p e r
+  some_more old new newer line true b m e p l r before held so next there by =
+      some_so_far old newer b e p r None None (so_far_more old new newer line b m e p l r None None None None (unwritten old new b m p l before held so) next tt by)
+  some_more old new newer line false b m e p l r before held so next there by =
+      some_of_all old b e p r None None (answered_last old new newer line b m e p l r None None None None (unwritten old new b m p l before held so) next (λ empty. there (refl, empty)) tt by)
+
+  pub answered_as : (line line' : List ℕ) (b b' : Book T K prices keys) (p p' : Pages) (before after : Option (List ℕ)) → line ≡ line' → AnsweredBy line b p b' p' before after → AnsweredBy line' b p b' p' before after
+  answered_as line line' b b' p p' before after same by = subst (λ l. AnsweredBy l b p b' p' before after) same by
+
   pub opened_as : (t : T) (k : K) (line line' : List ℕ) (p p' : Pages) (before after : Option (List ℕ)) (b b' : Option (Book T K prices keys)) → line ≡ line' → b ≡ b' → OpenedBy t k line p p' before after b → OpenedBy t k line' p p' before after b'
   opened_as t k line line' p p' before after b b' same is by = subst (λ l. OpenedBy t k l p p' before after b') same (subst (λ x. OpenedBy t k line p p' before after x) is by)
 
@@ -349,6 +410,18 @@ module _ {T K : Type 0} {prices : tariff.Ghosts T} {keys : key.Ghosts K} where
       let law = (lawful_day alive b p).law o es rs came.takings (record { lent = lent; came = at_own; taken = came.taken }) in
       all_stated (prices.code_of b.tariff) (stations_in (layout_of o)) (state b p) before after law.many (omega (arith, law.many, b.few.1)) (λ u h. (law.stations u h).stated) stated
 
+  -- an opening, and lines behind it, as a day's run
+  abbrev day_run : NeverVanish keys.weighs → (t : T) (k : K) (bytes line : List ℕ) (lines : List (List ℕ)) (answers : List Answer) (p p' p'' : Pages) (b b' : Book T K prices keys)
+      → line ≡ cut bytes → Starts t k line p b p' → NextAll (map entry_of lines) answers b p' b' p'' → DayRun prices keys t k bytes lines p p''
+  day_run alive t k bytes line lines answers p p' p'' b b' is start next = record {
+    opening = start.opening;
+    spelled = subst (λ x. Accepted x (opens start.opening)) is start.spelled;
+    answers = answers;
+    book = b';
+    came = next t k p start.opening [] [] start.came;
+    lawful = lawful_day alive b' p'';
+  }
+
   day_ran : NeverVanish keys.weighs → (t : T) (k : K) (known new : Option (List ℕ)) (line : List ℕ) (p p' p'' : Pages) (b b' : Book T K prices keys) (before held opened answered after : Option (List ℕ))
       → NextLine known new line true → Keeps before held → OpenedBy t k line p p' held opened (Some b) → AnsweredAll new b p' b' p'' opened answered → StatedAll (prices.code_of b'.tariff) (state b' p'') answered after
       → Day prices keys t k known p p'' before after
@@ -363,12 +436,7 @@ module _ {T K : Type 0} {prices : tariff.Ghosts T} {keys : key.Ghosts K} where
         read = consumed_rest known new (next.bytes ++ 10 ∷ []) all.input next.taken all.read;
         plain = All-cons Plain next.bytes all.lines next.plain all.plain;
         are = are_more next.bytes all.input all.lines all.are;
-        opening = start.opening;
-        spelled = subst (λ x. Accepted x (opens start.opening)) next.kept start.spelled;
-        answers = all.answers;
-        book = b';
-        came = came;
-        lawful = lawful_day alive b' p'';
+        run = day_run alive t k next.bytes line all.lines all.answers p p' p'' b b' next.kept start all.next;
         written = three before held opened answered after (answer_text (Ok tt)) (answers_text all.answers) (statements_to code (state b' p'') (stations_in (layout_of start.opening))) keeps
             (subst (Appends held opened) (answer_ok by.opened b by.book) by.written) all.written
             (statements_of alive t k p start.opening (map entry_of all.lines) all.answers b' p'' answered after came stated);
@@ -387,12 +455,7 @@ module _ {T K : Type 0} {prices : tariff.Ghosts T} {keys : key.Ghosts K} where
         read = consumed_all known new next.bytes (subst (Consumes known new) (append-nil next.bytes) next.taken) (next.last refl);
         plain = All-cons Plain next.bytes [] next.plain (All-nil Plain);
         are = last_unfed [] next.bytes refl (none_cut next.bytes line next.kept some) refl;
-        opening = start.opening;
-        spelled = subst (λ x. Accepted x (opens start.opening)) next.kept start.spelled;
-        answers = [];
-        book = b;
-        came = start.came;
-        lawful = lawful_day alive b p';
+        run = day_run alive t k next.bytes line [] [] p p' p' b b next.kept start (next_none b p');
         written = three before held opened opened after (answer_text (Ok tt)) [] (statements_to code (state b p') (stations_in (layout_of start.opening))) keeps
             (subst (Appends held opened) (answer_ok by.opened b by.book) by.written) (Appends-nil opened)
             (statements_of alive t k p start.opening [] [] b p' opened after start.came stated);
@@ -410,3 +473,43 @@ module _ {T K : Type 0} {prices : tariff.Ghosts T} {keys : key.Ghosts K} where
       (subst (λ (x : Book T K prices keys). StatedAll (prices.code_of x.tariff) (state x p') opened after) none.0
       (subst (λ (q : Pages). StatedAll (prices.code_of b'.tariff) (state b' q) opened after) none.1
       (subst (λ (o : Option (List ℕ)). StatedAll (prices.code_of b'.tariff) (state b' p'') o after) none.2 stated))))
+
+  -- where it fails
+
+  no_page_changed : (t : T) (k : K) (line : List ℕ) (p p' : Pages) (a : Result (Book T K prices keys) Fault) → Begins t k line p p' a → None ≡ kept a → p' ≡ p
+  no_page_changed t k line p p' (Ok b) begins is = cc
+  no_page_changed t k line p p' (Err f) begins is = unopened_by begins.taken begins.opens
+    where
+      unopened_by : (o : Result Opening Fault) → OpensAs {T = T} {K = K} {prices = prices} {keys = keys} t k o p p' (Err f) → p' ≡ p
+      unopened_by (Ok o) opens = opens.kept
+      unopened_by (Err g) opens = opens.1
+
+  pub stopped_opening : NeverVanish keys.weighs → (t : T) (k : K) (known new : Option (List ℕ)) (line : List ℕ) (fed : Bool) (p p' : Pages) (before after : Option (List ℕ)) (b : Option (Book T K prices keys))
+      → NextLine known new line fed → ((fed ≡ false) × (line ≡ []) → ⊥) → OpenedBy t k line p p' before after b → Stopped prices keys t k known p p'
+  stopped_opening alive t k known new line fed p p' before after None next there by = no_book (no_page_changed t k line p p' by.opened by.begins by.book)
+  stopped_opening alive t k known new line fed p p' before after (Some b) next there by = ran_part (record {
+    line = next.bytes;
+    lines = [];
+    plain = All-cons Plain next.bytes [] next.plain (All-nil Plain);
+    begins = begins_one known new line fed next there;
+    run = day_run alive t k next.bytes line [] [] p p' p' b b next.kept by.starts (next_none b p');
+  })
+
+  pub stopped_lines : NeverVanish keys.weighs → (t : T) (k : K) (known new : Option (List ℕ)) (line : List ℕ) (p p' p'' : Pages) (b b' : Book T K prices keys) (before after : Option (List ℕ))
+      → NextLine known new line true → OpenedBy t k line p p' before after (Some b) → AnsweredSome new b p' b' p'' → Stopped prices keys t k known p p''
+  stopped_lines alive t k known new line p p' p'' b b' before after next by some = ran_part (record {
+    line = next.bytes;
+    lines = some.lines;
+    plain = All-cons Plain next.bytes some.lines next.plain some.plain;
+    begins = begins_more known new next.bytes some.lines next.taken some.begins;
+    run = day_run alive t k next.bytes line some.lines some.answers p p' p'' b b' next.kept by.starts some.next;
+  })
+
+  -- all lines were answered, and a statement could not be written
+  pub stopped_last : NeverVanish keys.weighs → (t : T) (k : K) (known new : Option (List ℕ)) (line : List ℕ) (fed : Bool) (p p' p'' : Pages) (b b' : Book T K prices keys) (before after answered : Option (List ℕ))
+      → NextLine known new line fed → ((fed ≡ false) × (line ≡ []) → ⊥) → OpenedBy t k line p p' before after (Some b) → AnsweredRest fed new b p' b' p'' after answered
+      → Stopped prices keys t k known p p''
+  stopped_last alive t k known new line true p p' p'' b b' before after answered next there by all =
+      stopped_lines alive t k known new line p p' p'' b b' before after next by (some_of_all new b b' p' p'' after answered all)
+  stopped_last alive t k known new line false p p' p'' b b' before after answered next there by none =
+      subst (λ (q : Pages). Stopped prices keys t k known p q) (sym none.1) (stopped_opening alive t k known new line false p p' before after (Some b) next there by)

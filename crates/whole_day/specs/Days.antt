@@ -1,4 +1,5 @@
--- A whole day: what is written for an input.
+-- A whole day: what is written for an input, and what it comes to where the reader or the writer
+-- fails.
 use Rattle.std.specs.Prelude.{◌≡◌, ◌≢◌, ◌⊎◌, ◌<◌, ℕ, zero, suc, Bool, true, false, List, [], ◌∷◌, ◌++◌, All, map, None, Ok, Option, Result, IfSome, IsSome}
 use Rattle.book.specs.Calls.{Answer}
 use Rattle.book.specs.States.{State, presence, state}
@@ -33,6 +34,12 @@ pub data AreLines (input : List ℕ) (lines : List (List ℕ)) : Type 0 where
   last_unfed : (front : List (List ℕ)) (last : List ℕ) → lines ≡ front ++ last ∷ [] → last ≢ []
       → input ≡ fed_lines front ++ last → AreLines input lines
 
+-- the input begins with these lines: each has its line feed, whatever stands behind them; or they are
+-- all of it
+pub data BeginsWith (input : List ℕ) (lines : List (List ℕ)) : Type 0 where
+  followed : (rest : List ℕ) → input ≡ fed_lines lines ++ rest → BeginsWith input lines
+  whole : AreLines input lines → BeginsWith input lines
+
 -- a line as an entry: of one that is too long so much as shows it; its page for the answer is the least
 abbrev pub entry_of : List ℕ → Entry
 entry_of line = text (cut line) ANSWER_PAGE
@@ -63,6 +70,12 @@ pub record OpenedBy {T K : Type 0} {prices : tariff.Ghosts T} {keys : key.Ghosts
   pub starts : IfSome b (λ x. Starts tariff key line p x p')
   pub written : Appends before after (answer_text (told opened))
 
+-- the same, with nothing known of what was written
+abbrev pub OpenedUnwritten : {T K : Type 0} → tariff.Ghosts T → key.Ghosts K → T → K → List ℕ → Pages
+    → Pages → Type 0
+OpenedUnwritten {T} {K} prices keys tariff key line p p' =
+    (b : Option (Book T K prices keys)) × OpenedBy tariff key line p p' None None b
+
 -- the line comes next, and its answer was written
 pub record AnsweredBy {T K : Type 0} {prices : tariff.Ghosts T} {keys : key.Ghosts K}
     (line : List ℕ) (b : Book T K prices keys) (p : Pages) (b' : Book T K prices keys) (p' : Pages)
@@ -70,6 +83,11 @@ pub record AnsweredBy {T K : Type 0} {prices : tariff.Ghosts T} {keys : key.Ghos
   pub answer : Answer
   pub next : Next (text line ANSWER_PAGE) answer b p b' p'
   pub written : Appends before after (answer_text answer)
+
+-- the same, with nothing known of what was written
+abbrev pub AnsweredUnwritten : {T K : Type 0} {prices : tariff.Ghosts T} {keys : key.Ghosts K}
+    → List ℕ → Book T K prices keys → Pages → Book T K prices keys → Pages → Type 0
+AnsweredUnwritten line b p b' p' = AnsweredBy line b p b' p' None None
 
 -- whatever came before, these entries come next, with these answers
 abbrev pub NextAll : {T K : Type 0} {prices : tariff.Ghosts T} {keys : key.Ghosts K} → List Entry
@@ -91,7 +109,18 @@ pub record AnsweredAll {T K : Type 0} {prices : tariff.Ghosts T} {keys : key.Gho
   pub next : NextAll (map entry_of lines) answers b p b' p'
   pub written : Appends before after (answers_text answers)
 
--- the same, if the line before them had a line feed; else there are none, and nothing changed
+-- lines at the front of what was left come next
+pub record AnsweredSome {T K : Type 0} {prices : tariff.Ghosts T} {keys : key.Ghosts K}
+    (known : Option (List ℕ)) (b : Book T K prices keys) (p : Pages) (b' : Book T K prices keys)
+    (p' : Pages) : Type 0 where
+  pub lines : List (List ℕ)
+  pub answers : List Answer
+  pub plain : All Plain lines
+  pub begins : IfSome known (λ input. BeginsWith input lines)
+  pub next : NextAll (map entry_of lines) answers b p b' p'
+
+-- all lines behind one that had a line feed; behind one that had none there are none, and nothing
+-- changed
 abbrev pub AnsweredRest : {T K : Type 0} {prices : tariff.Ghosts T} {keys : key.Ghosts K} → Bool
     → Option (List ℕ)
     → Book T K prices keys → Pages → Book T K prices keys → Pages → Option (List ℕ)
@@ -113,6 +142,19 @@ pub record Unopened {T K : Type 0} (prices : tariff.Ghosts T) (keys : key.Ghosts
   pub last : fed ≡ false → IsAtEnd rest
   pub opened : OpenedBy {prices = prices} {keys = keys} tariff key (cut line) p p' before after None
 
+-- The first line and the others were a day's run.
+pub record DayRun {T K : Type 0} (prices : tariff.Ghosts T) (keys : key.Ghosts K)
+    (tariff : T) (key : K) (line : List ℕ) (lines : List (List ℕ)) (p p' : Pages) : Type 0 where
+  -- the first spells this opening
+  pub opening : Opening
+  pub spelled : Accepted (cut line) (opens opening)
+  -- the others, with these answers, led from it, on the pages as they were lent, to this book, of
+  -- which the law over every run holds
+  pub answers : List Answer
+  pub book : Book T K prices keys
+  pub came : Came tariff key p opening (map entry_of lines) answers book p'
+  pub lawful : LawfulDay book p'
+
 -- The first line opened a book, and each other line was an entry.
 pub record Ran {T K : Type 0} (prices : tariff.Ghosts T) (keys : key.Ghosts K)
     (tariff : T) (key : K) (known : Option (List ℕ)) (p p' : Pages)
@@ -124,19 +166,21 @@ pub record Ran {T K : Type 0} (prices : tariff.Ghosts T) (keys : key.Ghosts K)
   pub read : IfSome known (λ bytes. bytes ≡ input)
   pub plain : All Plain (line ∷ lines)
   pub are : AreLines input (line ∷ lines)
-  -- the first spells this opening
-  pub opening : Opening
-  pub spelled : Accepted (cut line) (opens opening)
-  -- the others, with these answers, led from it, on the pages as they were lent, to this book, of
-  -- which the law over every run holds
-  pub answers : List Answer
-  pub book : Book T K prices keys
-  pub came : Came tariff key p opening (map entry_of lines) answers book p'
-  pub lawful : LawfulDay book p'
+  -- they were a day's run
+  pub run : DayRun prices keys tariff key line lines p p'
   -- and `(ok)`, the answers, and a statement of each station that was opened were written
-  pub written : Appends before after (answer_text (Ok tt) ++ (answers_text answers
-      ++ statements_to (prices.code_of book.tariff) (state book p')
-      (stations_in (layout_of opening))))
+  pub written : Appends before after (answer_text (Ok tt) ++ (answers_text run.answers
+      ++ statements_to (prices.code_of run.book.tariff) (state run.book p')
+      (stations_in (layout_of run.opening))))
+
+-- Lines with which the input begins were a day's run.
+pub record RanPart {T K : Type 0} (prices : tariff.Ghosts T) (keys : key.Ghosts K)
+    (tariff : T) (key : K) (known : Option (List ℕ)) (p p' : Pages) : Type 0 where
+  pub line : List ℕ
+  pub lines : List (List ℕ)
+  pub plain : All Plain (line ∷ lines)
+  pub begins : IfSome known (λ input. BeginsWith input (line ∷ lines))
+  pub run : DayRun prices keys tariff key line lines p p'
 
 -- What a day reads and writes: nothing where there is no line; the refusal of a first line that opens
 -- no book; or the whole run.
@@ -149,3 +193,11 @@ pub data Day {T K : Type 0} (prices : tariff.Ghosts T) (keys : key.Ghosts K)
       → Day prices keys tariff key known p p' before after
   ran : Ran prices keys tariff key known p p' before after
       → Day prices keys tariff key known p p' before after
+
+-- What a day comes to where the reader or the writer fails: no line opened a book, and no page
+-- changed; or some lines ran. Nothing is said of what was written.
+pub data Stopped {T K : Type 0} (prices : tariff.Ghosts T) (keys : key.Ghosts K)
+    (tariff : T) (key : K) (known : Option (List ℕ)) (p p' : Pages) : Type 0 where
+  no_book : p' ≡ p → Stopped prices keys tariff key known p p'
+  ran_part : RanPart prices keys tariff key known p p'
+      → Stopped prices keys tariff key known p p'

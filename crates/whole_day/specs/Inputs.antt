@@ -1,5 +1,5 @@
 -- Lines of an input, and what of it is known to be left.
-use Rattle.std.specs.Prelude.{◌≡◌, ◌≢◌, ℕ, ◌+◌, ◌-◌, ◌≤◌, Bool, true, false, List, [], ◌∷◌, ◌++◌, All, length, take, drop, vec_items, Option}
+use Rattle.std.specs.Prelude.{◌≡◌, ◌≢◌, ℕ, ◌+◌, ◌-◌, ◌≤◌, Bool, true, false, List, [], ◌∷◌, ◌++◌, All, length, take, drop, Option}
 use Rattle.grammar.specs.declared.line.TheConstants.{LONGEST_LINE}
 use Rattle.whole_day.specs.declared.ahead.Ahead.{Ahead}
 use Rattle.std.specs.Io.KnownBytes.{Consumes, IsAtEnd, prepend_known}
@@ -29,7 +29,7 @@ pub record Took (ahead line line' : List ℕ) (taken : ℕ) (fed : Bool) : Type 
 
 -- the bytes that were read ahead and are not taken
 abbrev pub ahead : Ahead → List ℕ
-ahead w = take (w.end - w.at) (drop w.at (vec_items w.bytes))
+ahead w = take (w.end - w.at) (drop w.at w.bytes)
 
 -- what is left: those, and what the reader has
 abbrev pub left : {R : Type 0} → (R → Option (List ℕ)) → Ahead → R → Option (List ℕ)

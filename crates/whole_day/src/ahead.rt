@@ -1,23 +1,22 @@
 //! Lines, taken from bytes that are read ahead.
-ghost use Rattle.std.specs.Prelude.{◌<◌, ◌≤◌, vec_len};
+ghost use Rattle.std.specs.Prelude.{◌≤◌};
+ghost use Rattle.whole_day.specs.declared.ahead.TheConstants.{AHEAD};
 
 use crate::taking::{Line, read_some, take_line};
-use std::alloc::{AllocError, Global};
 use std::io;
 use std::io::{ErrorKind, Read, Write};
 
 /// How many bytes are read ahead.
-const AHEAD: usize = 65536;
+const AHEAD: usize = 64 * 1024;
 
 /// Bytes that were read ahead: those from `at` to `end` are not taken yet.
 #[derive(Drop)]
 pub(crate) struct Ahead {
-    bytes: Vec<u8>,
+    bytes: [u8; AHEAD],
     at: usize,
     end: usize,
     ghost in_order: { at ≤ end },
-    ghost within: { end ≤ vec_len bytes },
-    ghost some: { 0 < vec_len bytes },
+    ghost within: { end ≤ AHEAD },
 }
 
 impl Ahead {
@@ -26,14 +25,14 @@ impl Ahead {
     ghost use Rattle.whole_day.specs.Inputs.{ahead, left, NextLine, TookAhead};
 
     /// Nothing read yet.
-    pub(crate) fn new(alloc: Global) -> Result<Ahead, AllocError>
-        ensures { IfOk result (λ a. ahead a ≡ []) }
+    pub(crate) fn new() -> Ahead
+        ensures { ahead result ≡ [] }
     {
-        Ok(Ahead {
-            bytes: vec![in alloc; 0u8; AHEAD]?,
+        Ahead {
+            bytes: [0; AHEAD],
             at: 0,
             end: 0,
-        })
+        }
     }
 
     /// Reads on once all is taken, and writes out first what is held back: whether there is a byte.
@@ -55,6 +54,7 @@ impl Ahead {
     }
 
     /// Takes bytes up to a line feed, and it too: whether there was one.
+    #[tactic(auto, using(crate::proofs::Inputs::took_ahead))]
     fn take(&mut self, line: &mut Line) -> bool
         ensures { TookAhead (ahead self.old) (ahead self.new) line.old.items line.new.items result }
     {

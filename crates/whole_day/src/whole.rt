@@ -1,8 +1,9 @@
 //! A whole day: lines in, answers and statements out.
 ghost use Rattle.std.specs.Io.KnownBytes.{Appends};
-ghost use Rattle.std.specs.Prelude.{◌≡◌, ◌≤◌, ◌↔◌, [], false, length, take, IfOk, IsTrue, OnOk};
+ghost use Rattle.std.specs.Prelude.{◌≡◌, ◌≤◌, ◌↔◌, [], false, true, length, take, IfOk, IsTrue, OnErr, OnOk};
 ghost use Rattle.book.specs.States.{state};
-ghost use Rattle.whole_day.specs.Days.{AnsweredAll, AnsweredBy, AnsweredRest, Day, OpenedBy, StatedAll};
+ghost use Rattle.whole_day.specs.Days.{AnsweredAll, AnsweredBy, AnsweredRest, AnsweredSome, AnsweredUnwritten};
+ghost use Rattle.whole_day.specs.Days.{Day, OpenedBy, OpenedUnwritten, StatedAll, Stopped};
 ghost use Rattle.whole_day.specs.Inputs.{left};
 
 use crate::ahead::Ahead;
@@ -12,7 +13,6 @@ use book::{Book, Pages};
 use share::key::Key;
 use spell::answers::ANSWER_PAGE;
 use spell::statement::STATEMENT_PAGE;
-use std::alloc::Global;
 use std::io;
 use std::io::{ErrorKind, Read, Write};
 use tariff::tariff::Tariff;
@@ -35,8 +35,10 @@ fn open_by<T: Tariff + Drop, K: Key + Drop, W: Write>(
     line: &[u8],
     writer: &mut W,
 ) -> io::Result<Option<Book<T, K>>>
-    ensures { IfOk result (OpenedBy tariff key line.now pages.old pages.new
+    ensures done { IfOk result (OpenedBy tariff key line.now pages.old pages.new
         (W.contents writer.old) (W.contents writer.new)) }
+    ensures failed { OnErr result (OpenedUnwritten T.Tariff K.Key tariff key line.now
+        pages.old pages.new) }
 {
     let mut output = [0u8; ANSWER_PAGE];
     match start(tariff, key, pages, line, &mut output) {
@@ -55,8 +57,10 @@ fn answer<T: Tariff, K: Key, W: Write>(
     line: &[u8],
     writer: &mut W,
 ) -> io::Result<()>
-    ensures { OnOk result (AnsweredBy line.now book.old pages.old book.new pages.new
+    ensures done { OnOk result (AnsweredBy line.now book.old pages.old book.new pages.new
         (W.contents writer.old) (W.contents writer.new)) }
+    ensures failed { OnErr result (AnsweredUnwritten line.now book.old pages.old
+        book.new pages.new) }
 {
     let mut output = [0u8; ANSWER_PAGE];
     match answer_line(book, pages, line, &mut output) {
@@ -80,8 +84,10 @@ fn answer_all<T: Tariff, K: Key, R: Read, W: Write>(
     reader: &mut R,
     writer: &mut W,
 ) -> io::Result<()>
-    ensures { OnOk result (AnsweredAll (left R.remaining ahead.old reader.old)
+    ensures done { OnOk result (AnsweredAll (left R.remaining ahead.old reader.old)
         book.old pages.old book.new pages.new (W.contents writer.old) (W.contents writer.new)) }
+    ensures failed { OnErr result (AnsweredSome (left R.remaining ahead.old reader.old)
+        book.old pages.old book.new pages.new) }
 {
     let mut line = Line::new();
     for _ in 0..u64::MAX {
@@ -106,8 +112,10 @@ fn answer_rest<T: Tariff, K: Key, R: Read, W: Write>(
     reader: &mut R,
     writer: &mut W,
 ) -> io::Result<()>
-    ensures { OnOk result (AnsweredRest fed (left R.remaining ahead.old reader.old)
+    ensures done { OnOk result (AnsweredRest fed (left R.remaining ahead.old reader.old)
         book.old pages.old book.new pages.new (W.contents writer.old) (W.contents writer.new)) }
+    ensures failed { OnErr result ((fed ≡ true) × AnsweredSome
+        (left R.remaining ahead.old reader.old) book.old pages.old book.new pages.new) }
 {
     if !fed {
         return Ok(());
@@ -144,8 +152,11 @@ fn day<T: Tariff + Drop, K: Key + Drop, R: Read, W: Write>(
     reader: &mut R,
     writer: &mut W,
 ) -> io::Result<()>
-    ensures { OnOk result (Day T.Tariff K.Key tariff key (left R.remaining ahead.old reader.old)
+    ensures done { OnOk result (Day T.Tariff K.Key tariff key
+        (left R.remaining ahead.old reader.old)
         pages.old pages.new (W.contents writer.old) (W.contents writer.new)) }
+    ensures failed { OnErr result (Stopped T.Tariff K.Key tariff key
+        (left R.remaining ahead.old reader.old) pages.old pages.new) }
 {
     let mut line = Line::new();
     let fed = ahead.next_line(reader, writer, &mut line)?;
@@ -161,18 +172,22 @@ fn day<T: Tariff + Drop, K: Key + Drop, R: Read, W: Write>(
 
 /// Opens a book by the first line, makes each other line's call, writes each answer, and at the end each station's statement.
 /// What is held back is written out before more is read. A refused opening ends the day.
+/// Where the reader or the writer fails, the pages are as some lines at the front of the input leave them;
+/// if none of them opened a book, no page changed.
+/// The law holds of every run (docs/RULES.md, "The law over every run").
 #[tactic(auto, using(crate::proofs::Inputs::none_ahead))]
 pub fn run<T: Tariff + Drop, K: Key + Drop, R: Read, W: Write>(
-    alloc: Global,
     tariff: T,
     key: K,
     pages: &mut Pages,
     reader: &mut R,
     writer: &mut W,
 ) -> io::Result<()>
-    ensures { OnOk result (Day T.Tariff K.Key tariff key (R.remaining reader.old)
+    ensures done { OnOk result (Day T.Tariff K.Key tariff key (R.remaining reader.old)
         pages.old pages.new (W.contents writer.old) (W.contents writer.new)) }
+    ensures failed { OnErr result (Stopped T.Tariff K.Key tariff key (R.remaining reader.old)
+        pages.old pages.new) }
 {
-    let mut ahead = Ahead::new(alloc)?;
+    let mut ahead = Ahead::new();
     day(tariff, key, pages, &mut ahead, reader, writer)
 }
