@@ -16,6 +16,7 @@ use Rattle.share.specs.declared.key.Key as key
 use Rattle.tariff.specs.declared.tariff.Tariff as tariff
 use Rattle.std.specs.List.{position_or_len}
 use Rattle.units.specs.declared.fault.Fault.{Fault}
+use Rattle.units.specs.Faults.{page_number}
 use Rattle.units.specs.declared.fault.Fault.TheVariants.{NoSuchNumber, ShortPage, WrongPhase}
 use Rattle.units.specs.declared.fault.Page.{Page}
 use Rattle.units.specs.declared.fault.Page.TheVariants.{Schedules, Capacities, Readings, Accounts}
@@ -78,7 +79,7 @@ owner_of s g = position_or_len (reaches g) s.stations
 -- the causes that calls share
 
 abbrev pub short_page : Page → ℕ → ℕ → Option Fault
-short_page page given needed = when (nat_lt given needed) (ShortPage page needed)
+short_page page given needed = when (nat_lt given needed) (ShortPage (page_number page) needed)
 
 -- how many entries the four pages have
 pub record Lengths : Type 0 where

@@ -1,6 +1,7 @@
 //! What the grammar promises.
 ghost use Rattle.grammar.specs.Calls.{Canonical};
 ghost use Rattle.grammar.specs.Laws.{CallsExact, OpeningsExact};
+ghost use Rattle.grammar.specs.Limits.{LimitsOfLines};
 
 /// Two calls that are spelled alike ask for the same.
 pub fn one_call_for_a_line()
@@ -16,4 +17,9 @@ pub fn calls_are_read_exactly()
 /// The same of openings.
 pub fn openings_are_read_exactly()
     ensures { OpeningsExact }
+{}
+
+/// The limits of a line, which definitions cite by their names, are the numbers of docs/FORMS.md.
+pub fn lines_are_as_long_as_the_forms_say()
+    ensures { LimitsOfLines }
 {}

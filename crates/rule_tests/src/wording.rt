@@ -1,9 +1,9 @@
 use std::test::Fail;
-use units::fault::{Fault, Page};
+use units::fault::Fault;
 use units::station::{Phase, UnknownKind};
 
 /// A cause, and what it tells a person.
-const WORDS: [(Fault, &str); 27] = [
+const WORDS: [(Fault, &str); 28] = [
     (Fault::NoMemory, "there is no memory left"),
     (
         Fault::StationCount {
@@ -32,10 +32,14 @@ const WORDS: [(Fault, &str); 27] = [
     ),
     (
         Fault::ShortPage {
-            page: Page::Readings,
+            page: 3,
             needed: 96,
         },
         "the page Readings is too short: 96 entries are needed",
+    ),
+    (
+        Fault::ShortPage { page: 7, needed: 3 },
+        "the page of no name is too short: 3 entries are needed",
     ),
     (
         Fault::HighRate { rate: 4001 },

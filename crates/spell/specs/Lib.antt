@@ -2,6 +2,7 @@ pub mod Answers
 pub mod Causes
 pub mod Examples
 pub mod Laws
+pub mod Limits
 pub mod Pages
 pub mod Spelling
 pub mod Spoken

@@ -30,6 +30,17 @@ impl Page {
     }
 }
 
+/// How a person is told of the page with this number.
+fn page_name(number: u64) -> &'static str {
+    match number {
+        1 => "Schedules",
+        2 => "Capacities",
+        3 => "Readings",
+        4 => "Accounts",
+        _ => "of no name",
+    }
+}
+
 /// A cause of refusal, with what the answer says of it. Its text tells a person what is wrong.
 #[derive(Clone, Copy, Debug, Error)]
 pub enum Fault {
@@ -48,9 +59,9 @@ pub enum Fault {
     /// An installed power outside 1,000 to 200,000 kW.
     #[error("generator {generator} has {kw} kW installed, which is not {least} to {most}", least = LEAST_INSTALLED, most = MOST_INSTALLED)]
     InstalledRange { generator: u64, kw: u64 },
-    /// A page is too short.
-    #[error("the page {page:?} is too short: {needed} entries are needed")]
-    ShortPage { page: Page, needed: u64 },
+    /// A page is too short, by its number.
+    #[error("the page {name} is too short: {needed} entries are needed", name = page_name(*.page))]
+    ShortPage { page: u64, needed: u64 },
     /// A rate above 4,000 paise per kWh.
     #[error("the rate {rate} is above {most} paise per kWh", most = HIGHEST_RATE)]
     HighRate { rate: u64 },
@@ -157,7 +168,7 @@ impl Fault {
             Fault::BadStation { station } => refusal_at(0, 2, station, 0),
             Fault::InstalledCount { given, needed } => refusal_at(0, 3, given, needed),
             Fault::InstalledRange { generator, kw } => refusal_at(0, 4, generator, kw),
-            Fault::ShortPage { page, needed } => refusal_at(0, 5, page.number(), needed),
+            Fault::ShortPage { page, needed } => refusal_at(0, 5, page, needed),
             Fault::HighRate { rate } => refusal_at(0, 23, rate, 0),
             Fault::BadPenalty { value } => refusal_at(0, 24, value, 0),
             Fault::ShortOutput { length } => refusal_at(1, 6, length, 0),

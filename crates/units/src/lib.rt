@@ -5,5 +5,6 @@ pub mod bits;
 pub mod call;
 pub mod fault;
 pub mod head;
+pub mod laws;
 pub mod limits;
 pub mod station;

@@ -19,7 +19,7 @@ fn long_enough(page: Page, length: usize, needed: usize) -> Result<(), Fault>
 {
     if length < needed {
         return Err(Fault::ShortPage {
-            page,
+            page: page.number(),
             needed: needed as u64,
         });
     }
