@@ -1,8 +1,8 @@
 -- What a penalty keeps of the laws below it.
-use Rattle.std.specs.Prelude.{◌≡◌, ℕ, zero, suc, ◌*◌, ◌≤◌, ◌↔◌, Bool, true, false, cond, List, [], ◌∷◌, ℤ, pos, negsuc, Some, None, Option, IfSome, refl, is_none, ◌==◌, nat_lt, slice_index_or, unsigned_abs}
+use Rattle.std.specs.Prelude.{◌≡◌, ℕ, zero, suc, ◌+◌, ◌*◌, ◌<◌, ◌≤◌, ◌↔◌, Bool, true, false, cond, List, [], ◌∷◌, drop, length, ℤ, pos, negsuc, Some, None, Option, IfSome, refl, is_none, ◌==◌, nat_lt, slice_index_or, unsigned_abs}
 use Rattle.layers.specs.Penalties.{AreCapacities, MayStand, applies, at_capacity, bad_capacity, corrected, due_capacity, first_one_above, multiplied, penal, penalty_refused, raised}
-use Rattle.std.proofs.Common.{ap, ◌∙◌, arith, mul_assoc}
-use Rattle.std.proofs.lemmas.Bool.{cond-false, cond_both, le-ltb, ltb-false}
+use Rattle.std.proofs.Common.{add-one, ap, sym, ◌∙◌, arith, drop-cons, mul_assoc}
+use Rattle.std.proofs.lemmas.Bool.{cond-false, cond-true, cond_both, le-ltb, lt-ltb, ltb-false}
 use Rattle.tariff.specs.Charges.{magnitude}
 use Rattle.tariff.specs.Ranges.{IsInRange}
 use Rattle.tariff.specs.RangesLemmas.{in_range-true}
@@ -18,6 +18,22 @@ IsLow o = IfSome o (λ kw. kw ≤ STATION_KW)
 goes_on : (b : Bool) (x : ℕ) (o : Option ℕ) → cond b (Some x) o ≡ None → (b ≡ false) × (o ≡ None)
 goes_on true x o h = absurd cc
 goes_on false x o h = (refl, h)
+
+-- the first capacity that is too high, entry by entry
+module _ (due : List (Option ℕ)) (i : ℕ) (within : i < length due) (so_far : first_one_above due ≡ first_one_above (drop i due)) where
+  next : (o : Option ℕ) → slice_index_or due i None ≡ o → first_one_above due ≡ first_one_above (o ∷ drop (i + 1) due)
+  next o here =
+      let e : drop i due ≡ o ∷ drop (i + 1) due = rw add-one (drop-cons due i None within ∙ ap (λ x. x ∷ drop (suc i) due) here) in
+      so_far ∙ ap first_one_above e
+
+  pub found : (kw : ℕ) → slice_index_or due i None ≡ Some kw → STATION_KW < kw → Some kw ≡ first_one_above due
+  found kw here over = sym (next (Some kw) here ∙ cond-true _ _ _ (lt-ltb STATION_KW kw over))
+
+  pub passed : (kw : ℕ) → slice_index_or due i None ≡ Some kw → kw ≤ STATION_KW → first_one_above due ≡ first_one_above (drop (i + 1) due)
+  passed kw here small = next (Some kw) here ∙ cond-false _ _ _ (le-ltb STATION_KW kw small)
+
+  pub skipped : slice_index_or due i None ≡ None → first_one_above due ≡ first_one_above (drop (i + 1) due)
+  skipped here = next None here
 
 -- where no capacity is too high, none is at any block
 pub entry_low : (due : List (Option ℕ)) (i : ℕ) → first_one_above due ≡ None → IfSome (slice_index_or due i None) (λ kw. kw ≤ STATION_KW)

@@ -10,7 +10,7 @@ use units::fault::Fault;
 use units::limits::{BLOCK_PAISE, BLOCKS, HIGHEST_UNDER_PENALTY, PENALTY_FACTOR, STATION_KW};
 
 /// For each block, the capacity that should have been declared, if another was: none that no station has.
-#[derive(Drop)]
+#[derive(Clone, Copy)]
 struct DueCapacities {
     blocks: [Option<u32>; BLOCKS],
     ghost low: { first_one_above blocks ≡ None },
@@ -18,7 +18,7 @@ struct DueCapacities {
 
 /// A tariff that charges one station threefold in the blocks for which it declared a wrong capacity.
 /// It changes no charge of a query outside the range. Over a ceiling above 3,333 it changes nothing, and `new` makes none.
-#[derive(Drop)]
+#[derive(Clone, Copy, Drop)]
 pub struct Penalty<T> {
     below: T,
     station: u8,

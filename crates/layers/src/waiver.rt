@@ -7,7 +7,7 @@ use tariff::tariff::Tariff;
 use units::bits::BitSet;
 
 /// A tariff that charges nothing in the blocks of a grid disturbance. It changes no charge of a query outside the range.
-#[derive(Drop)]
+#[derive(Clone, Copy, Drop)]
 pub struct Waiver<T> {
     below: T,
     disturbed: BitSet,

@@ -1,7 +1,7 @@
 -- A station's day: its figures of each block, and what each generator gets of the 96 blocks.
 use Rattle.std.specs.Prelude.{◌≡◌, ℕ, zero, suc, ◌+◌, ◌-◌, ◌<◌, ◌≤◌, Bool, cond, ◌&&◌, List, [], ◌∷◌, length, ℤ, pos, ◌+ℤ◌, nat_le, nat_lt, slice_index_or}
 use Rattle.posting.specs.Amounts.{no_amounts, opened_account, with_amounts}
-use Rattle.share.specs.Rules.{Rules, rules_of}
+use Rattle.share.specs.Rules.{Rules}
 use Rattle.posting.specs.Sheets.{Sheet, installed_of, loads_at, query_of, sheet_of}
 use Rattle.posting.specs.declared.account.Account.{Account}
 use Rattle.posting.specs.declared.day.Day.{Day}
@@ -12,6 +12,7 @@ use Rattle.share.specs.Keys.{weights}
 use Rattle.share.specs.Shares.{Fair, shares}
 use Rattle.share.specs.declared.amounts.Amounts.{Amounts}
 use Rattle.share.specs.declared.key.Key as key
+use Rattle.share.specs.declared.load.Load.{Load}
 use Rattle.tariff.specs.Charges.{deviation_of}
 use Rattle.tariff.specs.declared.query.Query.{Query}
 use Rattle.tariff.specs.declared.tariff.Tariff as tariff
@@ -24,14 +25,18 @@ pub record StationDay : Type 0 where
   pub station : ℕ
   pub members : Members
 
--- a day in the code
-abbrev pub the_day : {T K : Type 0} → tariff.Ghosts T → key.Ghosts K → Day T K → StationDay
-the_day prices keys d = record {
-  rules = rules_of prices keys d.tariff.now;
+-- a day in the code, where generators are weighed so
+abbrev pub day_weighed : {T K : Type 0} → tariff.Ghosts T → (Load → Load → ℕ) → Day T K → StationDay
+day_weighed prices weighs d = record {
+  rules = record { charge = prices.charge_of d.tariff.now; weighs = weighs };
   sheet = sheet_of d.pages.now;
   station = d.station;
   members = d.members;
 }
+
+-- a day in the code, by its key
+abbrev pub the_day : {T K : Type 0} → tariff.Ghosts T → key.Ghosts K → Day T K → StationDay
+the_day prices keys d = day_weighed prices keys.weighs d
 
 -- the day of station t on these pages, where these are its generators
 abbrev pub day_on : Rules → Pages → ℕ → Members → StationDay

@@ -2,7 +2,7 @@
 ghost use Rattle.std.specs.Prelude.{◌≡◌};
 ghost use Rattle.posting.specs.Amounts.{plus, Within};
 
-pub use share::amounts::Amounts;
+pub use share::amounts::{Amounts, GeneratorAmounts};
 use units::limits::{BLOCK_PAISE, DAY_PAISE};
 
 /// Adds a block's share to the shares of the blocks before.

@@ -1,6 +1,7 @@
 -- The text of a quotation, as it is printed.
 use Rattle.std.specs.Prelude.{ℕ, ◌-◌, List, ◌++◌, codes, decimal, flat_map, length, replicate}
 use Rattle.quoting.specs.declared.quotation.Quotation.{Quotation}
+use Rattle.share.specs.Amounts.{listed}
 use Rattle.share.specs.declared.amounts.Amounts.{Amounts}
 use Rattle.std.specs.Fmt.{signed_decimal}
 use Rattle.std.specs.List.{enumerate_from}
@@ -32,4 +33,4 @@ quotation_text r =
     codes "          schedule/kW  actual/kW capacity/kW deviation/kW   charge/paise\n"
     ++ station_line r
     ++ codes "\n          number    money/paise   energy/kW\n"
-    ++ generator_lines r.each.items
+    ++ generator_lines (listed r.each)

@@ -1,7 +1,7 @@
 -- What a block costs a station, and what each of its generators bears.
 use Rattle.std.specs.Prelude.{◌≡◌, ℕ, List, length}
 use Rattle.quoting.specs.declared.quotation.Quotation.{Quotation}
-use Rattle.share.specs.Amounts.{energies, moneys}
+use Rattle.share.specs.Amounts.{energies, listed, moneys}
 use Rattle.share.specs.Keys.{totals, weights}
 use Rattle.share.specs.Loads.{loads}
 use Rattle.share.specs.Rules.{Rules}
@@ -23,9 +23,9 @@ pub record Quoted (rules : Rules) (schedule : ℕ) (gs : List Generator) (r : Qu
   pub deviation : r.owed.energy ≡ deviation_of r.query
   pub charge : r.owed.money ≡ rules.charge r.query
   -- each generator's money is its share of the charge, and its energy that of the deviation
-  pub count : length r.each.items ≡ length gs
-  pub money : moneys r.each.items ≡ shares r.owed.money (weights rules.weighs (loads gs))
-  pub energy : energies r.each.items ≡ shares r.owed.energy (weights rules.weighs (loads gs))
+  pub count : length (listed r.each) ≡ length gs
+  pub money : moneys (listed r.each) ≡ shares r.owed.money (weights rules.weighs (loads gs))
+  pub energy : energies (listed r.each) ≡ shares r.owed.energy (weights rules.weighs (loads gs))
   -- the shares add up to the amount, and each lies less than one unit from its exact proportion
   pub fair_money : Fair r.owed.money (weights rules.weighs (loads gs))
   pub fair_energy : Fair r.owed.energy (weights rules.weighs (loads gs))

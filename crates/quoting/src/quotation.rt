@@ -1,30 +1,30 @@
 //! What a block costs, and who bears it.
 ghost use Rattle.quoting.specs.Layout.{generator_line, generator_lines, quotation_text, station_line};
 ghost use Rattle.quoting.specs.Quotes.{asked, Quoted};
+ghost use Rattle.share.specs.Amounts.{listed};
 ghost use Rattle.share.specs.Loads.{loads};
 ghost use Rattle.share.specs.Rules.{rules_of};
 ghost use Rattle.std.specs.Fmt.{WritesOnOk};
 ghost use Rattle.std.specs.Prelude.{◌≡◌, Some};
 
 use arrayvec::ArrayVec;
-use share::amounts::Amounts;
+use share::amounts::{Amounts, GeneratorAmounts};
 use share::generators::Generators;
 use share::key::Key;
 use share::weights::Weights;
 use std::fmt;
 use tariff::query::Query;
 use tariff::tariff::Tariff;
-use units::limits::GENERATORS;
 
 /// What a block costs a station, and what each of its generators bears.
-#[derive(Drop)]
+#[derive(Clone, Copy)]
 pub struct Quotation {
     /// The schedule, the actual and the capacity of the station.
     pub query: Query,
     /// The charge, positive where it is payable and negative where it is receivable, and the deviation.
     pub owed: Amounts,
     /// The share of each generator: of the charge, and of the deviation.
-    pub each: ArrayVec<Amounts, GENERATORS>,
+    pub each: GeneratorAmounts,
 }
 
 /// What the tariff is asked of.
@@ -57,7 +57,11 @@ pub fn quote_for<T: Tariff, K: Key>(
     };
     let mut room = ArrayVec::new();
     let each = Weights::of(key, generators, &mut room).split_amounts(owed);
-    Quotation { query, owed, each }
+    Quotation {
+        query,
+        owed,
+        each: GeneratorAmounts::of(&each),
+    }
 }
 
 /// The line of the generator with this number.
@@ -94,9 +98,9 @@ impl Quotation {
 
     #[tactic(auto, using(crate::proofs::Printing::lines_walked))]
     fn write_generators<W: fmt::Write>(&self, f: &mut fmt::Formatter<W>) -> fmt::Result
-        ensures { WritesOnOk W.write_str_gives f.old result (generator_lines self.now.each.items) f.new }
+        ensures { WritesOnOk W.write_str_gives f.old result (generator_lines (listed self.now.each)) f.new }
     {
-        for (number, &share) in self.each.iter().enumerate() {
+        for (number, &share) in self.each.as_slice().iter().enumerate() {
             write_generator(f, number, share)?;
         }
         Ok(())

@@ -1,4 +1,5 @@
 use quoting::answer::answer;
+use quoting::request::read_request;
 use std::alloc::Global;
 use std::process::Abort;
 use std::test::Fail;
@@ -49,6 +50,19 @@ generator      0           -225           5
 generator      1           -225           5
 ";
     assert!(rt; quote(rt.alloc(), text)?.as_str() == expected);
+    Ok(())
+}
+
+/// A request and a quotation are copied as numbers are: each copy is used after the other.
+#[test]
+fn copies(rt: HostRuntime) -> Result<(), Fail> {
+    let request = read_request("schedule 1\ngenerator 1000 0 1")?;
+    let same_request = request;
+    let quotation = request.quote();
+    let same_quotation = quotation;
+    assert_eq!(rt; same_request.quote().owed, quotation.owed);
+    assert_eq!(rt; same_quotation.each.as_slice().len(), 1);
+    assert_eq!(rt; quotation.each.as_slice().len(), 1);
     Ok(())
 }
 

@@ -16,6 +16,17 @@ const EMPTY: Account = Account {
     energy: 7,
 };
 
+/// The same day with no key: its figures need none.
+fn keyless<'a, T, K>(day: &Day<'a, T, K>) -> Day<'a, T, ()> {
+    Day {
+        tariff: day.tariff,
+        key: &(),
+        station: day.station,
+        members: day.members,
+        pages: day.pages,
+    }
+}
+
 #[test]
 fn day_of_two(rt: HostRuntime) -> Result<(), Fail> {
     let mut schedules = [2000; BLOCKS];
@@ -38,6 +49,10 @@ fn day_of_two(rt: HostRuntime) -> Result<(), Fail> {
         members: Members::of(0, 2).ok_or("two generators")?,
         pages: &pages,
     };
+    let shares = day.shares(95);
+    let same = shares;
+    assert_eq!(rt; same.each.as_slice(), shares.each.as_slice());
+    assert_eq!(rt; same.figures, keyless(&day).figures(95));
     let sums = day.sums();
     sums.post(&mut pages.accounts);
     assert_eq!(rt; sums.charges, 1250);

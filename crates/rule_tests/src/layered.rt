@@ -36,3 +36,16 @@ fn waiver_over_penalty_over_bands(rt: HostRuntime) -> Result<(), Fail> {
     assert_eq!(rt; tariff.code(), 10);
     Ok(())
 }
+
+/// A layered tariff is copied as what stands below it is.
+#[test]
+fn layers_are_copied(rt: HostRuntime) -> Result<(), Fail> {
+    let tariff = Waiver::new(
+        Penalty::new(Banded::From15, 2, [None; BLOCKS])?,
+        BitSet::new(),
+    );
+    let same = tariff;
+    assert_eq!(rt; same.code(), 15);
+    assert_eq!(rt; tariff.code(), 15);
+    Ok(())
+}

@@ -1,9 +1,10 @@
 -- A walk over weights that splits an amount, one share more.
-use Rattle.std.proofs.Common.{◌≡◌, ℕ, ◌+◌, ◌-◌, ◌*◌, ◌/◌, ◌<◌, min, List, length, get_or, take, ℤ, pos, nat_abs, sum, sym, ap, ◌∙◌, arith}
-use Rattle.share.proofs.Fairness.{part_grows, share_at}
+use Rattle.std.proofs.Common.{◌≡◌, ℕ, ◌+◌, ◌-◌, ◌*◌, ◌/◌, ◌<◌, min, List, [], ◌∷◌, ◌++◌, length, get_or, take, ℤ, pos, nat_abs, sum, sym, ap, ◌∙◌, arith}
+use Rattle.share.proofs.Fairness.{length_shares, part_grows, share_at}
 use Rattle.share.proofs.Parts.{under_less}
 use Rattle.share.specs.Shares.{next_share, shares, under}
 use Rattle.share.specs.declared.splitter.Splitter.{Splitter}
+use Rattle.std.proofs.lemmas.List.{take_more}
 use Rattle.std.proofs.lemmas.List.Sums.{sum_by-take-le, sum_by_more}
 
 -- a share by the parts of the magnitude before and after its weight
@@ -33,3 +34,9 @@ module _ (m : ℤ) (ws : List ℕ) (i x : ℕ) (of : Splitter) (at : SplitTo m w
 
   pub split_more : (to : Splitter) → to.amount ≡ of.amount → to.total ≡ of.total → to.sum ≡ of.sum + min x (of.total - of.sum) → SplitTo m ws (i + 1) to
   split_more to amount total sum_is = record { amount = amount ∙ at.amount; total = total ∙ at.total; sum_is = sum_is ∙ ap (λ y. of.sum + y) whole ∙ more }
+
+-- the shares of the first i weights, and one more
+pub front_more : (m : ℤ) (ws : List ℕ) (i : ℕ) (front back : List ℤ) (share : ℤ) → i < length ws → front ≡ take i (shares m ws) → share ≡ get_or (shares m ws) i (pos 0)
+    → back ≡ front ++ (share ∷ []) → back ≡ take (i + 1) (shares m ws)
+front_more m ws i front back share here so_far is next =
+    next ∙ ap (λ xs. xs ++ (share ∷ [])) so_far ∙ ap (λ z. take i (shares m ws) ++ (z ∷ [])) is ∙ sym (take_more (shares m ws) i (pos 0) (rw length_shares here))

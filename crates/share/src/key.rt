@@ -2,7 +2,7 @@
 ghost use Rattle.std.specs.Prelude.{◌≡◌, ℕ};
 ghost use Rattle.share.specs.Keys.{NeverAboveLargest, NeverVanish, by_capacity, by_units};
 ghost use Rattle.share.specs.declared.load.Load.{Load};
-ghost use Rattle.share.specs.Alive.{units_alive, capacity_alive};
+ghost use Rattle.share.specs.Alive.{units_never_vanish, capacity_never_vanishes};
 ghost use Rattle.std.proofs.Common.{rules};
 
 use crate::load::Load;
@@ -33,7 +33,7 @@ impl Key for UnitsKey {
 
     ghost bounded = { Prim.search rules };
 
-    ghost alive = { units_alive };
+    ghost alive = { units_never_vanish };
 
     fn weight(&self, own: &Load, station: &Load) -> u32 {
         if station.actual > 0 {
@@ -53,7 +53,7 @@ impl Key for CapacityKey {
 
     ghost bounded = { Prim.search rules };
 
-    ghost alive = { capacity_alive };
+    ghost alive = { capacity_never_vanishes };
 
     fn weight(&self, own: &Load, station: &Load) -> u32 {
         if station.capacity > 0 {

@@ -2,7 +2,6 @@ ghost use Rattle.std.specs.Prelude.{◌≡◌, ◌*◌, ◌≤◌};
 ghost use Rattle.tariff.specs.Bands.{banded_charge, code_of_bands, edges_of, charge_in_bands};
 ghost use Rattle.tariff.specs.Charges.{between};
 ghost use Rattle.tariff.specs.Table.{Tabled};
-ghost use Rattle.tariff.specs.declared.banded.TheConstants.{BANDED_CEILING};
 ghost use Rattle.std.proofs.Common.{rules};
 
 use crate::query::Query;
@@ -19,7 +18,7 @@ const HIGH_RATE: u64 = 150;
 pub const BANDED_CEILING: u32 = (HIGH_RATE as u32 + 3) / 4;
 
 /// Where the three bands of deviation begin, in percent of the capacity.
-#[derive(Drop)]
+#[derive(Clone, Copy)]
 pub struct Edges {
     pub first: u32,
     pub second: u32,
@@ -81,7 +80,7 @@ fn in_bands(edges: Edges, capacity: u32, error: u64) -> u64
 impl Tariff for Banded {
     ghost charge_of = { banded_charge };
 
-    ghost ceiling_of = { λ _. BANDED_CEILING };
+    ghost ceiling_of = { λ _. 38 };
 
     ghost code_of = { code_of_bands };
 

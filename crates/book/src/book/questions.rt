@@ -74,7 +74,7 @@ impl<T: Tariff, K: Key> Book<T, K> {
         let day = self.day_of(pages, t as u8, station.plant.members);
         let shares = day.shares(block as u8);
         let k = generator as usize - station.plant.members.first();
-        Ok(shares.each[k])
+        Ok(shares.each.as_slice()[k])
     }
 
     /// What stands on the generator's account.

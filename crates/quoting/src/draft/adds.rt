@@ -19,7 +19,9 @@ use share::generator::Generator;
 use share::load::Load;
 use tariff::banded::Banded;
 use tariff::single::SingleRate;
-use units::limits::{GENERATOR_KW, HIGHEST_RATE, LEAST_INSTALLED, MOST_INSTALLED, STATION_KW};
+use units::limits::{
+    GENERATOR_KW, GENERATORS, HIGHEST_RATE, LEAST_INSTALLED, MOST_INSTALLED, STATION_KW,
+};
 
 /// Refuses a number above its limit.
 fn at_most(quantity: Quantity, value: u32, limit: u32) -> Result<(), Cause>
@@ -150,11 +152,15 @@ impl Draft {
         if self.generators.is_empty() {
             return Err(Cause::NoGenerator);
         }
+        let count = self.generators.len();
+        let mut generators = [Generator::default(); GENERATORS];
+        generators[..count].copy_from_slice(&self.generators);
         Ok(Request {
             tariff: self.tariff.unwrap_or(TariffChoice::Bands(Banded::From10)),
             key: self.key.unwrap_or(KeyChoice::Units),
             schedule,
-            generators: self.generators,
+            generators,
+            count,
         })
     }
 }

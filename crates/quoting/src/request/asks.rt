@@ -22,7 +22,7 @@ impl Request {
     fn quote_by<K: Key>(&self, key: &K) -> Quotation
         ensures { AnsweredBy K.Key.weighs self.now result }
     {
-        let generators = Generators::of(&self.generators).unwrap();
+        let generators = Generators::of(&self.generators[..self.count]).unwrap();
         match self.tariff {
             TariffChoice::Bands(bands) => quote_for(&bands, key, self.schedule, &generators),
             TariffChoice::Rates(rates) => quote_for(&rates, key, self.schedule, &generators),

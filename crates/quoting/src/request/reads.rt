@@ -11,12 +11,12 @@ pub fn read_request(text: &str) -> Result<Request, Complaint>
     ensures { MatchResult result (Granted text.now) (Refused text.now) }
 {
     let mut draft = Draft::new();
-    for (above, written) in text.lines().enumerate() {
-        draft.read_line(written).map_err(|cause| Complaint {
-            line: above + 1,
-            cause,
-        })?;
+    let mut line = 1;
+    for written in text.lines() {
+        draft
+            .read_line(written)
+            .map_err(|cause| Complaint { line, cause })?;
+        line += 1;
     }
-    let line = text.lines().count() + 1;
     draft.finish().map_err(|cause| Complaint { line, cause })
 }

@@ -53,24 +53,17 @@ impl<'a> Weights<'a> {
         ensures energy { energies result.items ≡ shares amounts.energy (held self.now) }
         ensures fair { Fair amounts.money (held self.now) × Fair amounts.energy (held self.now) }
     {
-        let money = self.split(amounts.money);
-        let energy = self.split(amounts.energy);
-        paired(&money, &energy)
+        let mut money = self.splitter(amounts.money);
+        let mut energy = self.splitter(amounts.energy);
+        let mut each = ArrayVec::new();
+        for &weight in self.each() {
+            each.push(Amounts {
+                money: money.share_of(weight),
+                energy: energy.share_of(weight),
+            });
+        }
+        each
     }
-}
-
-/// Each share of money with that of energy.
-fn paired(money: &[i64], energy: &[i64]) -> ArrayVec<Amounts, GENERATORS>
-    requires same { length money.now ≡ length energy.now }
-    requires few { length money.now ≤ GENERATORS }
-    ensures money { moneys result.items ≡ money.now }
-    ensures energy { energies result.items ≡ energy.now }
-{
-    let mut each = ArrayVec::new();
-    for (&money, &energy) in money.iter().zip(energy) {
-        each.push(Amounts { money, energy });
-    }
-    each
 }
 
 /// An amount split among a station's generators by any key: whatever the key, the shares are fair.

@@ -15,7 +15,7 @@ returns g c =
     let place : asked - c.first.result ≡ asked - (station_at s (owner_of s asked)).plant.members.first = ap (λ n. asked - n) (c.first.ensures ∙ ap (λ x. x.first) members) in
     let days = c.day_of-day.ensures ∙ ap (λ t. day_at s t m) own.owner.is ∙ ap (day_at s (owner_of s asked)) members in (
       not_refused asked c.args.block s m c.deref.result.now c.in_ok-t.ensures.0 members c.deref.ensures.value c.in_ok-block_read.ensures.0,
-      ap (λ (xs : List Amounts). get_or xs (asked - c.first.result) no_amounts) c.deref-2.ensures.0
+      ap (λ (xs : List Amounts). get_or xs (asked - c.first.result) no_amounts) c.as_slice.ensures
           ∙ c.shares-shares.ensures.each (asked - c.first.result)
           ∙ share_same c.args.block days place,
     )
