@@ -12,10 +12,17 @@ use units::fault::Fault;
 pub fn describe_line(heap: Global, line: &[u8]) -> Result<String, AllocError> {
     match read_call(line, &mut Room::new()) {
         Ok(call) => format!(in heap; "{}", Asked(call.parts())),
-        Err(Fault::UnknownHead) => match read_opening(line, &mut Lists::new()) {
-            Ok(opening) => format!(in heap; "{}", Asked(opening.parts())),
-            Err(fault) => format!(in heap; "{}", Refused { fault, line }),
-        },
+        Err(Fault::UnknownHead) => describe_opening(heap, line),
+        Err(fault) => format!(in heap; "{}", Refused { fault, line }),
+    }
+}
+
+/// The same of a line that is no call. It stands apart, since a function lays out its locals where it begins, and
+/// the lists of an opening are long.
+#[inline(never)]
+fn describe_opening(heap: Global, line: &[u8]) -> Result<String, AllocError> {
+    match read_opening(line, &mut Lists::new()) {
+        Ok(opening) => format!(in heap; "{}", Asked(opening.parts())),
         Err(fault) => format!(in heap; "{}", Refused { fault, line }),
     }
 }
