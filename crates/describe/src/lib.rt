@@ -17,8 +17,8 @@ pub fn describe_line(heap: Global, line: &[u8]) -> Result<String, AllocError> {
     }
 }
 
-/// The same of a line that is no call. It stands apart, since a function lays out its locals where it begins, and
-/// the lists of an opening are long.
+/// The same of a line that is no call. It stands apart, since a function lays out its locals where
+/// it begins, and the lists of an opening are long.
 #[inline(never)]
 fn describe_opening(heap: Global, line: &[u8]) -> Result<String, AllocError> {
     match read_opening(line, &mut Lists::new()) {

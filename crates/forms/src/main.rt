@@ -25,7 +25,8 @@ fn main(rt: HostRuntime) -> Result<()> {
     Ok(())
 }
 
-/// Takes the bytes that are read ahead, or reads on where there are none: whether the input goes on.
+/// Takes the bytes that are read ahead, or reads on where there are none: whether the input goes
+/// on.
 fn take_ahead<R: BufRead>(rt: &HostRuntime, input: &mut R, line: &mut Vec<u8>) -> io::Result<bool> {
     let ahead = match input.fill_buf() {
         Ok(ahead) => ahead,

@@ -34,7 +34,9 @@ impl BlockShares {
     fn new(figures: Amounts, weights: &Weights) -> BlockShares
         ensures figures { result.figures ≡ figures }
         ensures count { length (listed result.each) ≡ length (held weights.now) }
-        ensures each { (k : ℕ) → slice_index_or (listed result.each) k no_amounts ≡ amounts_at (shares figures.money (held weights.now)) (shares figures.energy (held weights.now)) k }
+        ensures each { (k : ℕ) → slice_index_or (listed result.each) k no_amounts
+            ≡ amounts_at (shares figures.money (held weights.now))
+            (shares figures.energy (held weights.now)) k }
     {
         let each = weights.split_amounts(figures);
         BlockShares {
@@ -83,9 +85,11 @@ impl<T: Tariff, K> Day<'_, T, K> {
         }
     }
 
-    /// The charge and the deviation of the station in a block. They depend on no key, so any type may stand for it.
+    /// The charge and the deviation of the station in a block. They depend on no key, so any type
+    /// may stand for it.
     pub fn figures(&self, block: u8) -> Amounts
-        ensures value { (weighs : Load → Load → ℕ) → result ≡ figures_at (day_weighed T.Tariff weighs self.now) block }
+        ensures value { (weighs : Load → Load → ℕ)
+            → result ≡ figures_at (day_weighed T.Tariff weighs self.now) block }
         ensures sized { BlockSized result }
     {
         let mut all = ArrayVec::new();
@@ -119,7 +123,8 @@ impl<T: Tariff, K: Key> Day<'_, T, K> {
     pub fn shares(&self, block: u8) -> BlockShares
         ensures figures { result.figures ≡ figures_at (the_day T.Tariff K.Key self.now) block }
         ensures count { length (listed result.each) ≡ self.now.members.count }
-        ensures each { (k : ℕ) → slice_index_or (listed result.each) k no_amounts ≡ share_at (the_day T.Tariff K.Key self.now) k block }
+        ensures each { (k : ℕ) → slice_index_or (listed result.each) k no_amounts
+            ≡ share_at (the_day T.Tariff K.Key self.now) k block }
         ensures fair { FairAt (the_day T.Tariff K.Key self.now) block }
         ensures sized { BlockSized result.figures }
     {

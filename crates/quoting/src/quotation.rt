@@ -98,7 +98,8 @@ impl Quotation {
 
     #[tactic(auto, using(crate::proofs::Printing::lines_walked))]
     fn write_generators<W: fmt::Write>(&self, f: &mut fmt::Formatter<W>) -> fmt::Result
-        ensures { WritesOnOk W.write_str_gives f.old result (generator_lines (listed self.now.each)) f.new }
+        ensures { WritesOnOk W.write_str_gives f.old result
+            (generator_lines (listed self.now.each)) f.new }
     {
         for (number, &share) in self.each.as_slice().iter().enumerate() {
             write_generator(f, number, share)?;

@@ -51,7 +51,7 @@ fn day_of_two(rt: HostRuntime) -> Result<(), Fail> {
     };
     let shares = day.shares(95);
     let same = shares;
-    assert_eq!(rt; same.each.as_slice(), shares.each.as_slice());
+    assert_eq!(rt; same.each, shares.each);
     assert_eq!(rt; same.figures, keyless(&day).figures(95));
     let sums = day.sums();
     sums.post(&mut pages.accounts);

@@ -1,5 +1,5 @@
 -- A walk over weights that splits an amount, one share more.
-use Rattle.std.proofs.Common.{◌≡◌, ℕ, ◌+◌, ◌-◌, ◌*◌, ◌/◌, ◌<◌, min, List, [], ◌∷◌, ◌++◌, length, get_or, take, ℤ, pos, nat_abs, sum, sym, ap, ◌∙◌, arith}
+use Rattle.std.proofs.Common.{◌≡◌, ℕ, ◌+◌, ◌-◌, ◌*◌, ◌/◌, ◌<◌, min, List, [], ◌∷◌, ◌++◌, length, get_or, take, ℤ, pos, nat_abs, sum, sym, ap, subst, ◌∙◌, arith}
 use Rattle.share.proofs.Fairness.{length_shares, part_grows, share_at}
 use Rattle.share.proofs.Parts.{under_less}
 use Rattle.share.specs.Shares.{next_share, shares, under}
@@ -34,6 +34,14 @@ module _ (m : ℤ) (ws : List ℕ) (i x : ℕ) (of : Splitter) (at : SplitTo m w
 
   pub split_more : (to : Splitter) → to.amount ≡ of.amount → to.total ≡ of.total → to.sum ≡ of.sum + min x (of.total - of.sum) → SplitTo m ws (i + 1) to
   split_more to amount total sum_is = record { amount = amount ∙ at.amount; total = total ∙ at.total; sum_is = sum_is ∙ ap (λ y. of.sum + y) whole ∙ more }
+
+-- the weight x is the i-th
+pub record IsWeight (ws : List ℕ) (i x : ℕ) : Type 0 where
+  pub here : i < length ws
+  pub read : x ≡ get_or ws i 0
+
+pub is_weight : (ws each : List ℕ) (i : ℕ) → each ≡ ws → i < length each → IsWeight ws i (get_or each i 0)
+is_weight ws each i same here = record { here = subst (λ xs. i < length xs) same here; read = ap (λ xs. get_or xs i 0) same }
 
 -- the shares of the first i weights, and one more
 pub front_more : (m : ℤ) (ws : List ℕ) (i : ℕ) (front back : List ℤ) (share : ℤ) → i < length ws → front ≡ take i (shares m ws) → share ≡ get_or (shares m ws) i (pos 0)

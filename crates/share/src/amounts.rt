@@ -15,7 +15,7 @@ pub struct Amounts {
 
 /// What each of a station's generators gets, in their order. Unlike an `ArrayVec` it is copied as a
 /// number is.
-#[derive(Clone, Copy)]
+#[derive(Clone, Copy, PartialEq, Eq, Debug)]
 pub struct GeneratorAmounts {
     each: [Amounts; GENERATORS],
     count: usize,

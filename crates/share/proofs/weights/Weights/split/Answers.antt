@@ -1,27 +1,23 @@
-use Rattle.std.proofs.Common.{◌<◌, ◌≤◌, length, get_or, pos, ap, ◌∙◌, arith, take_all, w64, to_z, of_z}
+use Rattle.std.proofs.Common.{◌≤◌, length, ap, ◌∙◌, arith, take_all, w64, to_z, of_z}
 use Rattle.share.proofs.Fairness.{fair, length_shares}
-use Rattle.share.proofs.Splits.{split_more, split_share}
+use Rattle.share.proofs.Splits.{front_more, is_weight, split_more, split_share}
 use Rattle.share.proofs.weights.Weights.split.Goals as goal
 use Rattle.share.specs.Held.{held}
 use Rattle.share.specs.Shares.{shares}
-use Rattle.std.proofs.lemmas.List.{take_more}
 use Rattle.std.proofs.lemmas.Int.{to_z-of_z}
 
 pub loop-weight-preserved : goal.loop-weight-preserved
 loop-weight-preserved c =
     let ws = held c.args.self.now in
     let i = c.loop-weight.weight-index in
-    let same = c.each-weight-items.ensures.value in
-    let here : i < length ws = rw same at c.loop-weight-test.true in
-    let read = ap (λ xs. get_or xs i 0) same in
+    let w = is_weight ws _ i c.each-weight-items.ensures.value c.loop-weight-test.true in
     let at = c.loop-weight.invariant.at in
     let next = c.share_of.ensures in
     let m = to_z w64 (of_z w64 c.args.amount) in
-    let share = to_z-of_z w64 c.share_of.result (record { sfits = c.share_of.type_inv }) ∙ next.share ∙ split_share m ws i _ c.loop-weight.splitter at here read in
-    let more = take_more (shares m ws) i (pos 0) (rw length_shares here) in
+    let share = to_z-of_z w64 c.share_of.result (record { sfits = c.share_of.type_inv }) ∙ next.share ∙ split_share m ws i _ c.loop-weight.splitter at w.here w.read in
     record {
-      at = split_more m ws i _ c.loop-weight.splitter at here read _ next.amount next.total next.sum;
-      front = cc;
+      at = split_more m ws i _ c.loop-weight.splitter at w.here w.read _ next.amount next.total next.sum;
+      front = front_more m ws i c.loop-weight.shares.items _ _ w.here c.loop-weight.invariant.front share c.push.ensures.items;
     }
 
 pub returns-clause-shares : goal.returns-clause-shares

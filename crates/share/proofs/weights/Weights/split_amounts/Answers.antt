@@ -1,6 +1,6 @@
-use Rattle.std.proofs.Common.{◌≡◌, ◌<◌, ◌≤◌, length, get_or, ap, ◌∙◌, arith, sym, take_all, w64}
+use Rattle.std.proofs.Common.{◌≡◌, ◌≤◌, length, ap, ◌∙◌, arith, sym, take_all, w64}
 use Rattle.share.proofs.Fairness.{fair, length_shares}
-use Rattle.share.proofs.Splits.{front_more, split_more, split_share}
+use Rattle.share.proofs.Splits.{front_more, is_weight, split_more, split_share}
 use Rattle.share.proofs.weights.Weights.split_amounts.Goals as goal
 use Rattle.share.specs.Amounts.{energies, moneys}
 use Rattle.share.specs.Held.{held}
@@ -13,9 +13,9 @@ push-requires c =
     let ws = held c.args.self.now in
     let each = c.loop-weight.each.items in
     let i = c.loop-weight.weight-index in
-    let here : i < length ws = rw c.each-weight-items.ensures.value at c.loop-weight-test.true in
+    let w = is_weight ws _ i c.each-weight-items.ensures.value c.loop-weight-test.true in
     let m = c.args.amounts.money in
-    let all : i ≤ length (shares m ws) = rw length_shares (omega arith) in
+    let all : i ≤ length (shares m ws) = rw length_shares (omega (arith, w.here)) in
     let count : length each ≡ i = sym (length-map each (λ a. a.money)) ∙ ap length c.loop-weight.invariant.money ∙ length-take-le i (shares m ws) all in
     omega (arith, count, c.each-weight-items.ensures.few)
 
@@ -23,23 +23,21 @@ pub loop-weight-preserved : goal.loop-weight-preserved
 loop-weight-preserved c =
     let ws = held c.args.self.now in
     let i = c.loop-weight.weight-index in
-    let same = c.each-weight-items.ensures.value in
-    let here : i < length ws = rw same at c.loop-weight-test.true in
-    let read = ap (λ xs. get_or xs i 0) same in
+    let w = is_weight ws _ i c.each-weight-items.ensures.value c.loop-weight-test.true in
     let inv = c.loop-weight.invariant in
     let m = c.args.amounts.money in
     let e = c.args.amounts.energy in
     let money = c.share_of.ensures in
     let energy = c.share_of-in-loop-weight.ensures in
-    let money_is = to_z-of_z w64 c.share_of.result (record { sfits = c.share_of.type_inv }) ∙ money.share ∙ split_share m ws i _ c.loop-weight.money inv.money_at here read in
-    let energy_is = to_z-of_z w64 c.share_of-in-loop-weight.result (record { sfits = c.share_of-in-loop-weight.type_inv }) ∙ energy.share ∙ split_share e ws i _ c.loop-weight.energy inv.energy_at here read in
+    let money_is = to_z-of_z w64 c.share_of.result (record { sfits = c.share_of.type_inv }) ∙ money.share ∙ split_share m ws i _ c.loop-weight.money inv.money_at w.here w.read in
+    let energy_is = to_z-of_z w64 c.share_of-in-loop-weight.result (record { sfits = c.share_of-in-loop-weight.type_inv }) ∙ energy.share ∙ split_share e ws i _ c.loop-weight.energy inv.energy_at w.here w.read in
     let moneys_are = ap moneys c.push.ensures.items ∙ map_push (λ a. a.money) c.loop-weight.each.items _ in
     let energies_are = ap energies c.push.ensures.items ∙ map_push (λ a. a.energy) c.loop-weight.each.items _ in
     record {
-      money_at = split_more m ws i _ c.loop-weight.money inv.money_at here read _ money.amount money.total money.sum;
-      energy_at = split_more e ws i _ c.loop-weight.energy inv.energy_at here read _ energy.amount energy.total energy.sum;
-      money = front_more m ws i (moneys c.loop-weight.each.items) _ _ here inv.money money_is moneys_are;
-      energy = front_more e ws i (energies c.loop-weight.each.items) _ _ here inv.energy energy_is energies_are;
+      money_at = split_more m ws i _ c.loop-weight.money inv.money_at w.here w.read _ money.amount money.total money.sum;
+      energy_at = split_more e ws i _ c.loop-weight.energy inv.energy_at w.here w.read _ energy.amount energy.total energy.sum;
+      money = front_more m ws i (moneys c.loop-weight.each.items) _ _ w.here inv.money money_is moneys_are;
+      energy = front_more e ws i (energies c.loop-weight.each.items) _ _ w.here inv.energy energy_is energies_are;
     }
 
 pub returns-clause-money : goal.returns-clause-money
